@@ -1,0 +1,4 @@
+pub mod Within
+pub mod Bounds
+pub mod Costs
+pub mod Bests

@@ -1,0 +1,4 @@
+pub mod Lists
+pub mod Items
+pub mod Limits
+pub mod Refusals

@@ -3,7 +3,7 @@ ghost use mathlib.Core.Path.{_≡_};
 ghost use mathlib.Core.Bool.{Bool, not};
 ghost use Rattle.items.specs.declared.Item.{Item};
 ghost use Rattle.items.specs.Items.{isNote, isDiscardable, withinLimits, itemsOf};
-ghost use Rattle.items.specs.Refusals.{contentRefusal};
+ghost use Rattle.items.specs.Refusals.{refusedAfter, contentRefusal};
 ghost use Rattle.std.specs.shelf.Lists.{leading};
 use crate::Item;
 use crate::Row;
@@ -51,31 +51,36 @@ pub impl Test for WithinLimits as TestWithinLimits {
 pub fn leading<T: Test>(test: &T, rows: &[Row]) -> usize
     ensures { λ r. ⌜ r ≡ leading (T·Test .holds) (itemsOf (now (rows .entry))) ⌝ }
 {
-    for (i, row) in rows.iter().enumerate() {
-        if !test.passes(row.item) {
-            return i;
-        }
+    let mut n = 0;
+    while n < rows.len() && test.passes(rows[n].item) {
+        n += 1;
     }
-    rows.len()
+    n
+}
+
+// A refusal at the row after the first `passed`, if there is one; else what is refused otherwise.
+fn refused_after(
+    cause: Cause,
+    passed: usize,
+    rows: &[Row],
+    otherwise: Option<Refusal>,
+) -> Option<Refusal>
+    ensures { λ r. ⌜ r ≡ refusedAfter cause passed (itemsOf (now (rows .entry))) otherwise ⌝ }
+{
+    if passed < rows.len() {
+        Some(Refusal {
+            cause,
+            offset: passed + 1,
+        })
+    } else {
+        otherwise
+    }
 }
 
 // What is refused of a note's content, if anything: a note in it, and then a value outside its limits.
 pub fn content_refusal(rows: &[Row]) -> Option<Refusal>
     ensures { λ r. ⌜ r ≡ contentRefusal (itemsOf (now (rows .entry))) ⌝ }
 {
-    let plain = leading(&NoNote, rows);
-    if plain < rows.len() {
-        return Some(Refusal {
-            cause: Cause::Nested,
-            offset: plain + 1,
-        });
-    }
-    let within = leading(&WithinLimits, rows);
-    if within < rows.len() {
-        return Some(Refusal {
-            cause: Cause::Value,
-            offset: within + 1,
-        });
-    }
-    None
+    let value = refused_after(Cause::Value, leading(&WithinLimits, rows), rows, None);
+    refused_after(Cause::Nested, leading(&NoNote, rows), rows, value)
 }

@@ -1,15 +1,15 @@
 -- The last item of the front of a list and the first of the rest, read at their places in the rows.
-use mathlib.Core.Path.{_≡_, refl, sym, ap, _∙_}
-use mathlib.Core.Bool.{Bool}
+use mathlib.Core.Path.{_≡_, refl, ap, _∙_, subst}
+use mathlib.Core.Bool.{Bool, true}
 use mathlib.Core.List.{List, [], _∷_, _++_}
-use Prim.Native.Nat.{ℕ, _+_, _-_, _<_, _≤_}
-use native.Mathlib.Omega.{arith}
+use Prim.Native.Nat.{ℕ, _+_, _<_}
 use lib.ListN.{length, take, drop, getD}
+use Rattle.std.proofs.shelf.Elements.{all-getD}
 use Rattle.std.proofs.shelf.Lists.{length-map, getD-map, take-more, drop-more}
 use Rattle.items.specs.declared.Item.{Item}
 use Rattle.items.specs.declared.Row.{Row}
-use Rattle.items.specs.Items.{itemsOf}
-use Rattle.notes.specs.Break.{lastIs, firstIs}
+use Rattle.items.specs.Items.{itemsOf, withinLimits}
+use Rattle.notes.specs.Break.{Within, lastIs, firstIs}
 
 lastIs-push : (p : Item → Bool) (xs : List Item) (x : Item) → lastIs p (xs ++ x ∷ []) ≡ p x
 lastIs-push p [] x = refl
@@ -34,3 +34,6 @@ module _ (rows : List Row) (k : ℕ) (d : Row) (l : k < length rows) where
 
   pub firstIs-at : (p : Item → Bool) → firstIs p (drop k (itemsOf rows)) ≡ p (getD rows k d .item)
   firstIs-at p = ap (firstIs p) itemsOf-drop
+
+  pub row-within : Within (itemsOf rows) → withinLimits (getD rows k d .item) ≡ true
+  row-within h = subst (λ x. withinLimits x ≡ true) itemsOf-at (all-getD (λ x. withinLimits x ≡ true) (itemsOf rows) k (d .item) inside h)

@@ -28,7 +28,7 @@ use Rattle.notes.proofs.Places.{break-within}
 pub record Fair (items : List Item) (first : ℕ) (p : Part) : Type 0 where
   pub begins : p .first ≡ first
   pub ends : endOf p ≤ length items
-  pub dropped : All (λ x. isDiscardable x ≡ true) (take (p .dropped) (drop (p .first + p .count) items))
+  pub dropped : All (λ x. isDiscardable x ≡ true) (take (p .dropped) (drop (p .first + p .cut .place) items))
 
 span-append : (a m n : ℕ) → span a (m + n) ≡ span a m ++ span (a + m) n
 span-append a zero n = rw (zero-add n, add-zero a)
@@ -46,7 +46,7 @@ leading-passes p (x ∷ xs) = go (p x) refl (leading-passes p xs)
     go false e h = tt
 
 module _ (items : List Item) (d : ℕ) where
-  fair : (first : ℕ) (w : ℤ) (p : Part) → first ≤ length items → Some p ≡ partFrom items d first w → Fair items first p
+  fair : (first : ℕ) (w : ℤ) (p : Part) → first ≤ length items → Some p ≡ partFrom items (record { height = w; depth = d }) first → Fair items first p
   fair first w p l e = go (breakOf (drop first items) w d) refl e
     where
       go : (o : Option NoteBreak) → breakOf (drop first items) w d ≡ o → Some p ≡ mapped (partAt items first) o → Fair items first p
@@ -64,9 +64,9 @@ module _ (items : List Item) (d : ℕ) where
   module _ (P : ℕ → List Part → Type 0) (none : (first : ℕ) → P first []) (more : (first : ℕ) (p : Part) (ps : List Part) → Fair items first p → P (endOf p) ps → P first (p ∷ ps)) where
     parts-all : (first : ℕ) (ws : List ℤ) → first ≤ length items → P first (partsFrom items d first ws)
     parts-all first [] l = none first
-    parts-all first (w ∷ ws) l = go (ltb first (length items)) (partFrom items d first w) refl (λ p m. parts-all (endOf p) ws m)
+    parts-all first (w ∷ ws) l = go (ltb first (length items)) (partFrom items (record { height = w; depth = d }) first) refl (λ p m. parts-all (endOf p) ws m)
       where
-        go : (t : Bool) (o : Option Part) → partFrom items d first w ≡ o → ((p : Part) → endOf p ≤ length items → P (endOf p) (partsFrom items d (endOf p) ws)) →
+        go : (t : Bool) (o : Option Part) → partFrom items (record { height = w; depth = d }) first ≡ o → ((p : Part) → endOf p ≤ length items → P (endOf p) (partsFrom items d (endOf p) ws)) →
             P first (cond t (elim o as (λ _. List Part) [ None ↦ [] | Some p ↦ p ∷ partsFrom items d (endOf p) ws ]) [])
         go false o e h = none first
         go true None e h = none first
@@ -78,10 +78,10 @@ module _ (items : List Item) (d : ℕ) where
       more : (first : ℕ) (p : Part) (ps : List Part) → Fair items first p → InOrder (endOf p) (length items) ps → InOrder first (length items) (p ∷ ps)
       more first p ps f h =
           let left = length items - endOf p in
-          let e : length items - first ≡ p .count + (p .dropped + left) = omega (arith, f .begins, f .ends) in
+          let e : length items - first ≡ p .cut .place + (p .dropped + left) = omega (arith, f .begins, f .ends) in
           let whole : span first (length items - first) ≡ pieceOf p ++ (droppedOf p ++ span (endOf p) left) =
-          ap (span first) e ∙ ap (λ a. span a (p .count + (p .dropped + left))) (sym (f .begins)) ∙ span-append (p .first) (p .count) (p .dropped + left) ∙
-          ap (λ xs. pieceOf p ++ xs) (span-append (p .first + p .count) (p .dropped) left) in
+          ap (span first) e ∙ ap (λ a. span a (p .cut .place + (p .dropped + left))) (sym (f .begins)) ∙ span-append (p .first) (p .cut .place) (p .dropped + left) ∙
+          ap (λ xs. pieceOf p ++ xs) (span-append (p .first + p .cut .place) (p .dropped) left) in
           simp append-assoc (ap (λ xs. pieceOf p ++ (droppedOf p ++ xs)) h ∙ sym whole)
 
   pub parts-drop-discardable : (first : ℕ) (ws : List ℤ) → first ≤ length items → OnlyDiscardable items (partsFrom items d first ws)

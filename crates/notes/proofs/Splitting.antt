@@ -29,7 +29,7 @@ restAfter-push first [] p = refl
 restAfter-push first (q ∷ ps) p = restAfter-push (endOf q) ps p
 
 module _ (items : List Item) (d first : ℕ) where
-  parts-more : (w : ℤ) (ws : List ℤ) (p : Part) → first < length items → Some p ≡ partFrom items d first w → partsFrom items d first (w ∷ ws) ≡ p ∷ partsFrom items d (endOf p) ws
+  parts-more : (w : ℤ) (ws : List ℤ) (p : Part) → first < length items → Some p ≡ partFrom items (record { height = w; depth = d }) first → partsFrom items d first (w ∷ ws) ≡ p ∷ partsFrom items d (endOf p) ws
   parts-more w ws p l e =
       let t : ltb first (length items) ≡ true = lt-ltb first (length items) l in
       rw (t, sym e)
@@ -40,7 +40,7 @@ module _ (items : List Item) (d first : ℕ) where
   parts-over (w ∷ ws) (inr e) = absurd (omega arith)
 
 module _ (items : List Item) (ws : List ℤ) (d : ℕ) (before after : List Part) (s : Split) (h : Splitting items ws d before after s) (long : length after ≡ length before) (room : length ws ≤ length before) where
-  pub splitting-more : (p : Part) → s .count < length ws → s .rest < length items → endOf p ≤ length items → Some p ≡ partFrom items d (s .rest) (getD ws (s .count) (pos 0)) →
+  pub splitting-more : (p : Part) → s .count < length ws → s .rest < length items → endOf p ≤ length items → Some p ≡ partFrom items (record { height = getD ws (s .count) (pos 0); depth = d }) (s .rest) →
       Splitting items ws d before (set after (s .count) p) (record { count = s .count + 1; rest = endOf p })
   splitting-more p l m f e =
       let n = s .count in

@@ -1,8 +1,9 @@
--- The walk over a note's content, one place on: what is left to look at still gives the note's best break.
+-- A look at one place leaves the walk one place on, or at the note's break.
 use mathlib.Core.Path.{_≡_, refl, sym, ap, _∙_, subst}
 use mathlib.Core.Bool.{Bool, true, false, cond}
 use mathlib.Core.List.{List, [], _∷_, _++_}
-use Prim.Native.Nat.{ℕ, _+_, _≤_, _<_}
+use Prim.Native.Nat.{ℕ, suc, _+_, _^_, _≤_}
+use native.Mathlib.Nat.{add-zero}
 use native.Mathlib.Omega.{arith}
 use lib.IntN.{ℤ, pos}
 use lib.Signed.{leZ, _<ℤ_}
@@ -12,18 +13,20 @@ use Rattle.std.specs.declared.option.Option.{Option}
 use Rattle.std.specs.declared.option.Option.the-variants.{Some, None}
 use Rattle.std.specs.shelf.Lists.{folded}
 use Rattle.std.proofs.shelf.Lists.{length-take-le, drop-all}
-use Rattle.std.proofs.shelf.Sums.{folded-push}
+use Rattle.std.proofs.shelf.Elements.{all-take}
 use Rattle.std.proofs.shelf.Tests.{or-right}
 use Rattle.items.specs.declared.Item.{Item}
 use Rattle.items.specs.declared.Item.the-variants.{Box, Glue, Kern, Penalty, Note}
 use Rattle.items.specs.Items.{most, isBox, isGlue, withinLimits}
 use Rattle.cost.specs.declared.sums.Sums.{Sums}
 use Rattle.cost.specs.Cost.{stops, forced, forbidden}
-use Rattle.cost.specs.Sums.{none, weighed, fitOf}
+use Rattle.cost.specs.Sums.{Roomy, none, weighed}
 use Rattle.cost.specs.Least.{least}
-use Rattle.cost.proofs.Bounds.{Bounded, bounded-none, bounded-weighed}
+use Rattle.cost.proofs.Bounds.{Bounded, bounded-none, bounded-weighed, bounded-roomy}
+use Rattle.notes.specs.declared.Column.{Column}
 use Rattle.notes.specs.declared.NoteBreak.{NoteBreak}
 use Rattle.notes.specs.Break.{Within, lastIs, firstIs, free, unlessForbidden, notePenalty, sumsOf, breakWith, breakAfter, candidates, ends, bestOf, breakOf}
+use Rattle.notes.specs.Walk.{Summed, Walked}
 
 abbrev pub price : NoteBreak → ℤ
 price b = b .cost
@@ -71,55 +74,55 @@ module _ (w : ℤ) (d : ℕ) (before : List Item) (best : Option NoteBreak) wher
   pub ended : (now : NoteBreak) → Some now ≡ least price best (breakAfter w d before forced) → Some now ≡ bestOf best (candidates w d before [])
   ended now is = is ∙ sym (last best (breakAfter w d before forced) [] (or-right (leZ (pos most) (breakAfter w d before forced .cost)) true refl))
 
--- where the walk is: what it has summed, and what is left to look at
-pub record Walked (items : List Item) (w : ℤ) (d k : ℕ) (sums : Sums) (best : Option NoteBreak) : Type 0 where
-  pub summed : sums ≡ sumsOf d (take k items)
-  pub small : Bounded k sums
-  pub left : breakOf items w d ≡ bestOf best (candidates w d (take k items) (drop k items))
+-- the sums of the items before a place are small
+sums-bounded : (d n : ℕ) (s : Sums) (xs : List Item) → Within xs → Bounded n s → Bounded (n + length xs) (folded (weighed d) s xs)
+sums-bounded d n s [] h b = rw add-zero b
+sums-bounded d n s (x ∷ xs) h b =
+    let e : n + 1 + length xs ≡ n + suc (length xs) = omega arith in
+    subst (λ m. Bounded m (folded (weighed d) s (x ∷ xs))) e (sums-bounded d (n + 1) (weighed d s x) xs (h .1) (bounded-weighed n d s x (h .0) b))
 
-pub walked-same : (items : List Item) (w : ℤ) (d k : ℕ) (sums sums′ : Sums) (best best′ : Option NoteBreak) → sums′ ≡ sums → best′ ≡ best →
-    Walked items w d k sums best → Walked items w d k sums′ best′
-walked-same items w d k sums sums′ best best′ e f h = subst (λ s. Walked items w d k s best′) (sym e) (subst (λ b. Walked items w d k sums b) (sym f) h)
+module _ (items : List Item) (c : Column) (k : ℕ) (l : k ≤ length items) where
+  pub summed-roomy : (s : Sums) → Within items → length items ≤ 16384 → Summed items c k s → Roomy s
+  summed-roomy s h m e =
+      let b = sums-bounded (c .depth) 0 none (take k items) (all-take (λ x. withinLimits x ≡ true) k items h) bounded-none in
+      let n : 0 + length (take k items) ≤ 2 ^ 29 = omega (arith, length-take-le k items l) in
+      subst Roomy (sym e) (bounded-roomy (0 + length (take k items)) (sumsOf (c .depth) (take k items)) n b)
 
-pub walked-none : (items : List Item) (w : ℤ) (d : ℕ) → Walked items w d 0 none None
-walked-none items w d = record { summed = refl; small = bounded-none; left = refl }
+  here-is : (s : Sums) (p : ℤ) → Summed items c k s → breakWith (c .height) k s p ≡ breakAfter (c .height) (c .depth) (take k items) p
+  here-is s p e = ap (λ t. breakWith (c .height) k t p) e ∙ ap (λ n. breakWith (c .height) n (sumsOf (c .depth) (take k items)) p) (sym (length-take-le k items l))
 
-module _ (items : List Item) (w : ℤ) (d k : ℕ) (sums : Sums) (best : Option NoteBreak) (h : Walked items w d k sums best) (l : k ≤ length items) where
-  here-is : (p : ℤ) → breakWith w k sums p ≡ breakAfter w d (take k items) p
-  here-is p = ap (λ s. breakWith w k s p) (h .summed) ∙ ap (λ n. breakWith w n (sumsOf d (take k items)) p) (sym (length-take-le k items l))
+  module _ (s : Sums) (best : Option NoteBreak) (e : Summed items c k s) (w : Walked items c k best) where
+    least-is : (p : ℤ) (now : NoteBreak) → Some now ≡ least price best (breakWith (c .height) k s p) → Some now ≡ least price best (breakAfter (c .height) (c .depth) (take k items) p)
+    least-is p now is = is ∙ ap (least price best) (here-is s p e)
 
-  least-is : (p : ℤ) (now : NoteBreak) → Some now ≡ least price best (breakWith w k sums p) → Some now ≡ least price best (breakAfter w d (take k items) p)
-  least-is p now e = e ∙ ap (least price best) (here-is p)
+    pub walk-ends : (now : NoteBreak) → length items ≤ k → Some now ≡ least price best (breakWith (c .height) k s forced) → Some now ≡ breakOf items (c .height) (c .depth)
+    walk-ends now m is =
+        ended (c .height) (c .depth) (take k items) best now (least-is forced now is) ∙
+        ap (λ a. bestOf best (candidates (c .height) (c .depth) (take k items) a)) (sym (drop-all k items m)) ∙ sym w
 
-  pub walked-all : (now : NoteBreak) → length items ≤ k → Some now ≡ least price best (breakWith w k sums forced) → Some now ≡ breakOf items w d
-  walked-all now m e =
-      ended w d (take k items) best now (least-is forced now e) ∙ ap (λ a. bestOf best (candidates w d (take k items) a)) (sym (drop-all k items m)) ∙ sym (h .left)
+    module _ (x : Item) (takes : take (k + 1) items ≡ take k items ++ x ∷ []) (drops : drop k items ≡ x ∷ drop (k + 1) items) where
+      -- the place before x, as the definition has it
+      at-x : (o : Option ℤ) → o ≡ notePenalty (take k items) (drop k items) → notePenalty (take k items) (x ∷ drop (k + 1) items) ≡ o
+      at-x o q = sym (q ∙ ap (notePenalty (take k items)) drops)
 
-  module _ (x : Item) (takes : take (k + 1) items ≡ take k items ++ x ∷ []) (drops : drop k items ≡ x ∷ drop (k + 1) items) where
-    -- the place before x, as the definition has it
-    at-x : (o : Option ℤ) → notePenalty (take k items) (drop k items) ≡ o → notePenalty (take k items) (x ∷ drop (k + 1) items) ≡ o
-    at-x o e = sym (ap (notePenalty (take k items)) drops) ∙ e
+      left-is : breakOf items (c .height) (c .depth) ≡ bestOf best (candidates (c .height) (c .depth) (take k items) (x ∷ drop (k + 1) items))
+      left-is = w ∙ ap (λ a. bestOf best (candidates (c .height) (c .depth) (take k items) a)) drops
 
-    left-is : breakOf items w d ≡ bestOf best (candidates w d (take k items) (x ∷ drop (k + 1) items))
-    left-is = h .left ∙ ap (λ a. bestOf best (candidates w d (take k items) a)) drops
+      on : (best′ : Option NoteBreak) →
+          bestOf best (candidates (c .height) (c .depth) (take k items) (x ∷ drop (k + 1) items)) ≡
+          bestOf best′ (candidates (c .height) (c .depth) (take k items ++ x ∷ []) (drop (k + 1) items)) →
+          Walked items c (k + 1) best′
+      on best′ q = left-is ∙ q ∙ ap (λ b. bestOf best′ (candidates (c .height) (c .depth) b (drop (k + 1) items))) (sym takes)
 
-    on : (best′ : Option NoteBreak) → withinLimits x ≡ true →
-        bestOf best (candidates w d (take k items) (x ∷ drop (k + 1) items)) ≡ bestOf best′ (candidates w d (take k items ++ x ∷ []) (drop (k + 1) items)) →
-        Walked items w d (k + 1) (weighed d sums x) best′
-    on best′ within e =
-        record {
-          summed = ap (λ s. weighed d s x) (h .summed) ∙ sym (folded-push (weighed d) none (take k items) x) ∙ sym (ap (sumsOf d) takes);
-          small = bounded-weighed k d sums x within (h .small);
-          left = left-is ∙ e ∙ ap (λ b. bestOf best′ (candidates w d b (drop (k + 1) items))) (sym takes);
-        }
+      pub walk-passes : None ≡ notePenalty (take k items) (drop k items) → Walked items c (k + 1) best
+      walk-passes q = on best (passed (c .height) (c .depth) (take k items) best x (drop (k + 1) items) (at-x None q))
 
-    pub walked-past : withinLimits x ≡ true → notePenalty (take k items) (drop k items) ≡ None → Walked items w d (k + 1) (weighed d sums x) best
-    walked-past within e = on best within (passed w d (take k items) best x (drop (k + 1) items) (at-x None e))
+      module _ (p : ℤ) (now : NoteBreak) (q : Some p ≡ notePenalty (take k items) (drop k items)) (is : Some now ≡ least price best (breakWith (c .height) k s p)) where
+        pub walk-looks : false ≡ ends (breakWith (c .height) k s p) → Walked items c (k + 1) (Some now)
+        walk-looks t =
+            on (Some now)
+            (looked (c .height) (c .depth) (take k items) best x (drop (k + 1) items) p now (at-x (Some p) q) (least-is p now is) (sym (t ∙ ap ends (here-is s p e))))
 
-    module _ (p : ℤ) (now : NoteBreak) (e : notePenalty (take k items) (drop k items) ≡ Some p) (is : Some now ≡ least price best (breakWith w k sums p)) where
-      pub walked-on : withinLimits x ≡ true → false ≡ ends (breakWith w k sums p) → Walked items w d (k + 1) (weighed d sums x) (Some now)
-      walked-on within s =
-          on (Some now) within (looked w d (take k items) best x (drop (k + 1) items) p now (at-x (Some p) e) (least-is p now is) (sym (s ∙ ap ends (here-is p))))
-
-      pub walked-to : true ≡ ends (breakWith w k sums p) → Some now ≡ breakOf items w d
-      walked-to s = stopped w d (take k items) best x (drop (k + 1) items) p now (at-x (Some p) e) (least-is p now is) (sym (s ∙ ap ends (here-is p))) ∙ sym left-is
+        pub walk-stops : true ≡ ends (breakWith (c .height) k s p) → Some now ≡ breakOf items (c .height) (c .depth)
+        walk-stops t =
+            stopped (c .height) (c .depth) (take k items) best x (drop (k + 1) items) p now (at-x (Some p) q) (least-is p now is) (sym (t ∙ ap ends (here-is s p e))) ∙ sym left-is

@@ -1,2 +1,3 @@
 pub mod Break
+pub mod Walk
 pub mod Split

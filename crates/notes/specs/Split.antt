@@ -18,6 +18,7 @@ use Rattle.items.specs.declared.refusals.Cause.the-variants.{Limits, NoContent}
 use Rattle.items.specs.Lists.{span}
 use Rattle.items.specs.Items.{most, isDiscardable}
 use Rattle.items.specs.Refusals.{contentRefusal}
+use Rattle.notes.specs.declared.Column.{Column}
 use Rattle.notes.specs.declared.NoteBreak.{NoteBreak}
 use Rattle.notes.specs.declared.split.Part.{Part}
 use Rattle.notes.specs.declared.split.Split.{Split}
@@ -25,35 +26,28 @@ use Rattle.notes.specs.Break.{breakOf}
 
 -- the numbers of a part's piece, of what is dropped after it, and where what is left begins; items are counted from 0
 abbrev pub pieceOf : Part → List ℕ
-pieceOf p = span (p .first) (p .count)
+pieceOf p = span (p .first) (p .cut .place)
 
 abbrev pub droppedOf : Part → List ℕ
-droppedOf p = span (p .first + p .count) (p .dropped)
+droppedOf p = span (p .first + p .cut .place) (p .dropped)
 
 abbrev pub endOf : Part → ℕ
-endOf p = p .first + p .count + p .dropped
+endOf p = p .first + p .cut .place + p .dropped
 
 -- what a break of the items from `first` on makes of them: a piece, and then what can be dropped, up to a box
 abbrev pub partAt : List Item → ℕ → NoteBreak → Part
-partAt items first b =
-    record {
-      first = first;
-      count = b .place;
-      dropped = leading isDiscardable (drop (first + b .place) items);
-      height = b .height;
-      cost = b .cost;
-    }
+partAt items first b = record { first = first; cut = b; dropped = leading isDiscardable (drop (first + b .place) items) }
 
 -- the part that the best break splits off
-abbrev pub partFrom : List Item → ℕ → ℕ → ℤ → Option Part
-partFrom items d first w = mapped (partAt items first) (breakOf (drop first items) w d)
+abbrev pub partFrom : List Item → Column → ℕ → Option Part
+partFrom items c first = mapped (partAt items first) (breakOf (drop first items) (c .height) (c .depth))
 
 -- the parts for a list of wanted heights, one after another while items are left
 abbrev pub partsFrom : List Item → ℕ → ℕ → List ℤ → List Part
 partsFrom items d first [] = []
 partsFrom items d first (w ∷ ws) =
     cond (ltb first (length items))
-    (elim (partFrom items d first w) as (λ _. List Part) [ None ↦ [] | Some p ↦ p ∷ partsFrom items d (endOf p) ws ])
+    (elim (partFrom items (record { height = w; depth = d }) first) as (λ _. List Part) [ None ↦ [] | Some p ↦ p ∷ partsFrom items d (endOf p) ws ])
     []
 
 -- where what no part has begins
@@ -68,7 +62,7 @@ InOrder first n ps = let rest = restAfter first ps in
 
 -- only glue, kerns and penalties are dropped
 abbrev pub OnlyDiscardable : List Item → List Part → Type 0
-OnlyDiscardable items ps = All (λ p. All (λ x. isDiscardable x ≡ true) (take (p .dropped) (drop (p .first + p .count) items))) ps
+OnlyDiscardable items ps = All (λ p. All (λ x. isDiscardable x ≡ true) (take (p .dropped) (drop (p .first + p .cut .place) items))) ps
 
 -- what is refused: a table's length or the depth outside its limits, no content, and what content may not hold
 abbrev pub splitRefusal : List Item → ℕ → ℕ → ℕ → Option Refusal

@@ -2,6 +2,7 @@
 use items::Item;
 use items::Row;
 use items::refusals::Refusal;
+use notes::NoteBreak;
 use notes::split::Part;
 use notes::split::split_note;
 use std::fmt;
@@ -102,13 +103,13 @@ impl fmt::Display for Run as RunDisplay {
 fn print_part(rt: &impl Print, column: usize, part: Part) -> io::Result<()> {
     let piece = Run {
         first: part.first,
-        count: part.count,
+        count: part.cut.place,
     };
-    let height = part.height;
-    let cost = part.cost;
+    let height = part.cut.height;
+    let cost = part.cut.cost;
     println!(rt, "column {column}: {piece}, height {height}, cost {cost}")?;
     let dropped = Run {
-        first: part.first.saturating_add(part.count),
+        first: part.first.saturating_add(part.cut.place),
         count: part.dropped,
     };
     println!(rt, "dropped: {dropped}")
@@ -140,12 +141,16 @@ fn note_rows() -> [Row; 17] {
 
 fn main(rt: LibcRuntime) -> io::Result<()> {
     let rows = note_rows();
+    let nowhere = NoteBreak {
+        place: 0,
+        height: 0,
+        penalty: 0,
+        cost: 0,
+    };
     let nothing = Part {
         first: 0,
-        count: 0,
+        cut: nowhere,
         dropped: 0,
-        height: 0,
-        cost: 0,
     };
     let mut parts = [nothing; COLUMNS];
     match split_note(&rows, &[HEIGHT; COLUMNS], DEPTH, &mut parts) {

@@ -7,8 +7,8 @@ use Rattle.notes.specs.Break.{lastIs}
 use Rattle.notes.proofs.Ends.{lastIs-at}
 use Rattle.notes.proofs.after_box.Needs as need
 
-pub returns-then-k-gt0 : need.returns-then-k-gt0
-returns-then-k-gt0 c =
+pub returns : need.returns
+returns c =
     let rows = c .args .rows .now in
     let k = c .args .k in
     let l : k - 1 < length rows = omega arith in

@@ -29,17 +29,17 @@ module _ (p : Item → Bool) (rows : List Row) (i : ℕ) where
   over : length rows ≤ i → leading p (drop i (itemsOf rows)) ≡ 0
   over l = leading-drop-all p (itemsOf rows) i (simp length-map l)
 
-pub returns-then-not-passes : need.returns-then-not-passes
-returns-then-not-passes g c =
-    let z = no (g .T·Test .holds) (c .args .rows .now) (c .loop-i .i) _ (c .loop-i-test .taken) (c .if-not-passes .ensures tt) in
-    omega (arith, c .loop-i .inv)
+pub loop-n-again : need.loop-n-again
+loop-n-again g c =
+    let z = yes (g .T·Test .holds) (c .args .rows .now) (c .loop-n .n) _ (c .loop-n-test .taken) (c .if-passes .ensures tt) in
+    omega (arith, c .loop-n .inv)
 
-pub loop-i-again : need.loop-i-again
-loop-i-again g c =
-    let z = yes (g .T·Test .holds) (c .args .rows .now) (c .loop-i .i) _ (c .loop-i-test .taken) (c .if-not-passes .ensures tt) in
-    omega (arith, c .loop-i .inv)
+pub returns-else-passes : need.returns-else-passes
+returns-else-passes g c =
+    let z = no (g .T·Test .holds) (c .args .rows .now) (c .loop-n .n) _ (c .loop-n-test .taken) (c .if-passes .ensures tt) in
+    omega (arith, c .loop-n .inv)
 
-pub returns : need.returns
-returns g c =
-    let z = over (g .T·Test .holds) (c .args .rows .now) (c .loop-i .i) (c .loop-i-test .left) in
-    omega (arith, c .loop-i .inv)
+pub returns-after-loop-n : need.returns-after-loop-n
+returns-after-loop-n g c =
+    let z = over (g .T·Test .holds) (c .args .rows .now) (c .loop-n .n) (c .loop-n-test .left) in
+    omega (arith, c .loop-n .inv)

@@ -14,14 +14,14 @@ use Rattle.notes.proofs.NoteBreak.at.Needs as need
 
 pub returns : need.returns
 returns c =
-    let s = c .args .sums .now in
-    let f = c .fits .wanted in
+    let s = c .args .before .now in
+    let f = c .fits .height in
     let g = c .fits .penalty in
     let t : natAbs (s .total) < 2 ^ 62 = c .pre .total in
     let d : s .depth < 2 ^ 32 = search needs in
-    let height : toZ w64 (ofZ w64 (toZ w64 (ofZ w64 (s .total)) +ℤ toZ w64 (s .depth))) ≡ s .total +ℤ pos (s .depth) = omega (arith, ints) in
+    let high : toZ w64 (ofZ w64 (toZ w64 (ofZ w64 (s .total)) +ℤ toZ w64 (s .depth))) ≡ s .total +ℤ pos (s .depth) = omega (arith, ints) in
     let penalty = toZ-ofZ w32 (c .args .penalty) g in
     let price = toZ-ofZ w64 (c .break-cost .result) (record { sfits = c .break-cost .ok }) in
-    let fit : c .fit .result ≡ fitOf (c .args .wanted) s = simp toZ-ofZ at (c .fit .ensures) in
+    let fit : c .fit .result ≡ fitOf (c .args .height) s = simp toZ-ofZ at (c .fit .ensures) in
     let is : c .break-cost .result ≡ breakCost (c .fit .result) (c .args .penalty) (pos 0) = simp toZ-ofZ at (c .break-cost .ensures) in
     cc

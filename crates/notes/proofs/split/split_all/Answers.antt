@@ -23,7 +23,7 @@ loop-split-again c =
     let same = widened (getD (c .args .wanted .now) (c .loop-split .split .count) (pos 0)) f in
     splitting-more (itemsOf (c .args .rows .now)) (c .args .wanted .now) (c .args .depth) (c .args .parts .now) (c .loop-split .parts) (c .loop-split .split) (c .loop-split .inv)
     (c .loop-split .kept .parts) (c .pre .room) (c .split-off-part .result) (c .loop-split-test .taken) (simp length-map (c .if-split-rows .taken))
-    (simp length-map (c .split-off-part .ensures .end)) (c .split-off-part .ensures .part ∙ ap (partFrom (itemsOf (c .args .rows .now)) (c .args .depth) (c .loop-split .split .rest)) same)
+    (simp length-map (c .split-off-part .ensures .end)) (c .split-off-part .ensures .part ∙ ap (λ h. partFrom (itemsOf (c .args .rows .now)) (record { height = h; depth = c .args .depth }) (c .loop-split .split .rest)) same)
 
 pub returns-else-split-rows : need.returns-else-split-rows
 returns-else-split-rows c =

@@ -55,7 +55,7 @@ parts-are items ws d before after s h = ap (take (s .count)) (h .table) ∙ take
 pub split-all-requires : need.split-all-requires
 split-all-requires c κs =
     let a = accepted (itemsOf (c .args .rows .now)) (length (c .args .wanted .now)) (c .args .depth) (length (c .args .parts .now)) (sym (c .in-rest .ensures tt)) in
-    record { within = a .within; short = simp length-map at (a .short); room = a .fits }
+    record { content = a .within; short = simp length-map at (a .short); room = a .fits }
 
 pub returns : need.returns
 returns c =

@@ -43,4 +43,4 @@ returns-else-gap-self c =
     let g : SFits w64 (c .args .self .now .total) = search needs in
     let h = apart (c .args .goal) (c .args .self .now .total) (c .pre .goal) (c .pre .total) in
     shrunk (c .args .goal) (c .args .self .now) (c .unsigned-abs-gap .result) (c .badness-else-gap-self .result)
-    (simp toZ-ofZ at (c .unsigned-abs-gap .ensures .value)) (simp toZ-ofZ at (c .if-self-goal .left)) (c .if-gap-self .left) (c .badness-else-gap-self .ensures .value)
+    (simp toZ-ofZ at (c .unsigned-abs-gap .ensures .value)) (simp toZ-ofZ at (c .if-self-goal .left)) (omega arith) (c .badness-else-gap-self .ensures .value)

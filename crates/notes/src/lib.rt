@@ -90,10 +90,7 @@ fn before_glue(rows: &[Row], k: usize) -> bool
     requires short { ⌜ length (now rows) ≤ 16384 ⌝ }
     ensures { λ r. ⌜ r ≡ firstIs isGlue (drop k (itemsOf (now (rows .entry)))) ⌝ }
 {
-    if k >= rows.len() {
-        return false;
-    }
-    rows[k].item.is_glue()
+    k < rows.len() && rows[k].item.is_glue()
 }
 
 fn penalty_at(rows: &[Row], k: usize) -> Option<i32>

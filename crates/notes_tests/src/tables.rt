@@ -6,7 +6,7 @@ use notes::split::Part;
 use notes::split::split_note;
 use std::test::*;
 
-pub fn rows_of(items: &[Item]) -> [Row; 8] {
+pub(crate) fn rows_of(items: &[Item]) -> [Row; 8] {
     let mut rows = [Row::fed(Item::Penalty { value: 0 }, 1); 8];
     for i in 0..8 {
         if i < items.len() {
@@ -16,7 +16,7 @@ pub fn rows_of(items: &[Item]) -> [Row; 8] {
     rows
 }
 
-pub fn unwritten() -> Part {
+pub(crate) fn unwritten() -> Part {
     let cut = NoteBreak {
         place: 77,
         height: 77,
@@ -31,7 +31,7 @@ pub fn unwritten() -> Part {
 }
 
 // The one part of a note that is split to one height.
-pub fn first_part(items: &[Item], height: i32, depth: u32) -> Result<Part, Fail> {
+pub(crate) fn first_part(items: &[Item], height: i32, depth: u32) -> Result<Part, Fail> {
     check(items.len() <= 8)?;
     let rows = rows_of(items);
     let mut parts = [unwritten(); 1];
@@ -42,7 +42,7 @@ pub fn first_part(items: &[Item], height: i32, depth: u32) -> Result<Part, Fail>
 }
 
 // A break's place, height and cost.
-pub fn check_break(
+pub(crate) fn check_break(
     items: &[Item],
     height: i32,
     depth: u32,
@@ -54,11 +54,11 @@ pub fn check_break(
     check_eq(cut.cost, want.2).note("the cost")
 }
 
-pub fn bx(height: u32, depth: u32) -> Item {
+pub(crate) fn bx(height: u32, depth: u32) -> Item {
     Item::Box { height, depth }
 }
 
-pub fn glue(width: i32, stretch: u32, order: u8, shrink: u32) -> Item {
+pub(crate) fn glue(width: i32, stretch: u32, order: u8, shrink: u32) -> Item {
     Item::Glue {
         width,
         stretch,
@@ -67,10 +67,10 @@ pub fn glue(width: i32, stretch: u32, order: u8, shrink: u32) -> Item {
     }
 }
 
-pub fn kern(width: i32) -> Item {
+pub(crate) fn kern(width: i32) -> Item {
     Item::Kern { width }
 }
 
-pub fn penalty(value: i32) -> Item {
+pub(crate) fn penalty(value: i32) -> Item {
     Item::Penalty { value }
 }

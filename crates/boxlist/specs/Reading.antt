@@ -4,6 +4,7 @@ use mathlib.Core.Bool.{Bool, true, false, cond}
 use mathlib.Core.List.{List, [], _∷_, map}
 use mathlib.Core.Logic.{_⊎_}
 use Prim.Native.Nat.{ℕ, _+_, _*_, _<_, _≤_}
+use lib.Dec.{ltb}
 use lib.ListN.{length, take, drop}
 use Rattle.std.specs.declared.option.Option.{Option}
 use Rattle.std.specs.declared.option.Option.the-variants.{Some, None}
@@ -25,6 +26,10 @@ use Rattle.boxlist.specs.Order.{toCome, stageAfter, headWithin, itemOf}
 
 abbrev pub textFault : ℕ → ℕ → Fault
 textFault line cause = record { line = line; layer = Text; cause = cause }
+
+-- a text of more than 8,192 bytes is not read
+abbrev pub lengthFault : ℕ → Option Fault
+lengthFault n = cond (ltb 8192 n) (Some (textFault 0 7)) None
 
 abbrev pub afterEnd : ℕ → Stage → Result (Option Placed) Fault
 afterEnd line Start = Err (textFault line 9)

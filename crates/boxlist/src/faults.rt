@@ -2,6 +2,7 @@
 ghost use mathlib.Core.Path.{_≡_};
 ghost use Prim.Native.Nat.{_+_, _-_, _^_, min};
 ghost use Rattle.items.specs.Refusals.{numberOf};
+ghost use Rattle.boxlist.specs.Reading.{lengthFault};
 ghost use Rattle.boxlist.specs.declared.faults.Layer.the-variants.{Galley};
 use items::refusals::Refusal;
 
@@ -44,5 +45,23 @@ pub impl From<Met> for Fault as FaultFromMet {
             layer: Layer::Galley,
             cause: met.refusal.cause.number(),
         }
+    }
+}
+
+// The longest text that is read.
+pub const LONGEST: usize = 8_192;
+
+// What is told of a text by its length alone, before any line is read.
+pub fn length_fault(len: usize) -> Option<Fault>
+    ensures { λ r. ⌜ r ≡ lengthFault len ⌝ }
+{
+    if len > LONGEST {
+        Some(Fault {
+            line: 0,
+            layer: Layer::Text,
+            cause: TOO_LONG,
+        })
+    } else {
+        None
     }
 }

@@ -3,8 +3,8 @@ mod galley;
 mod show;
 
 use boxlist::faults::Fault;
-use boxlist::faults::Layer;
-use boxlist::faults::TOO_LONG;
+use boxlist::faults::LONGEST;
+use boxlist::faults::length_fault;
 use boxlist::list::BoxList;
 use galley::Galley;
 use galley::Happened;
@@ -16,9 +16,7 @@ use notes::split::Part;
 use std::io;
 use std::io::Read;
 
-// The longest text that is read.
-const LONGEST: usize = 8_192;
-// One byte more shows that a text is too long.
+// One byte more than the longest text shows that a text is too long.
 const BUFFER: usize = 8_193;
 
 // Reads the standard input to its end, or as much as fits.
@@ -79,15 +77,8 @@ fn print_notes(
 fn main(rt: LibcRuntime) -> io::Result<()> {
     let mut buffer = [0u8; BUFFER];
     let len = read_text(&rt, &mut buffer)?;
-    if len > LONGEST {
-        return show::fault(
-            &rt,
-            Fault {
-                line: 0,
-                layer: Layer::Text,
-                cause: TOO_LONG,
-            },
-        );
+    if let Some(fault) = length_fault(len) {
+        return show::fault(&rt, fault);
     }
     let text = &buffer[0..len];
     let nothing = Item::Penalty { value: 0 };

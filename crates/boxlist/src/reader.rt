@@ -92,7 +92,6 @@ impl<'a> Reader<'a> {
         ensures line { λ _. ⌜ now (self .exit) .line ≡ now (self .entry) .line + 1 ⌝ }
         ensures text { λ _. ⌜ now (self .exit) .text ≡ now (self .entry) .text ⌝ }
     {
-        self.pos = to;
-        self.line += 1;
+        (self.pos, self.line) = (to, self.line + 1);
     }
 }

@@ -61,7 +61,7 @@ fn fill(rows: &mut [Row], content: &[Item]) {
 }
 
 impl Galley {
-    pub fn new() -> Galley {
+    pub(crate) fn new() -> Galley {
         Galley {
             classes: [UNDECLARED; 8],
             used: 0,
@@ -166,7 +166,7 @@ impl Galley {
     }
 
     // Reads the next entry.
-    pub fn next(
+    pub(crate) fn next(
         &mut self,
         list: &mut BoxList,
         content: &mut [Item],

@@ -40,7 +40,7 @@ fn part(rt: &impl Print, column: usize, part: Part) -> io::Result<()> {
     println!(rt, "dropped: {dropped}")
 }
 
-pub fn note(rt: &impl Print, note: SplitNote, parts: &[Part]) -> io::Result<()> {
+pub(crate) fn note(rt: &impl Print, note: SplitNote, parts: &[Part]) -> io::Result<()> {
     let number = note.number;
     let class = note.class;
     println!(rt, "note {number} of class {class}")?;
@@ -54,7 +54,7 @@ pub fn note(rt: &impl Print, note: SplitNote, parts: &[Part]) -> io::Result<()> 
     Ok(())
 }
 
-pub fn fault(rt: &impl Print, fault: Fault) -> io::Result<()> {
+pub(crate) fn fault(rt: &impl Print, fault: Fault) -> io::Result<()> {
     let line = fault.line;
     let cause = fault.cause;
     match fault.layer {

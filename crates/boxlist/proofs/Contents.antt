@@ -14,6 +14,8 @@ use Rattle.std.proofs.shelf.Lists.{map-push, take-more-set, drop-set-lt, drop-d
 use Rattle.std.proofs.shelf.Tests.{ne-eqb}
 use Rattle.items.specs.declared.Item.{Item}
 use Rattle.boxlist.specs.declared.faults.Fault.{Fault}
+use Rattle.boxlist.specs.declared.faults.TextCause.the-variants.{Limits}
+use Rattle.boxlist.specs.Faults.{textFault}
 use Rattle.boxlist.specs.declared.list.BoxList.{BoxList}
 use Rattle.boxlist.specs.declared.list.Placed.{Placed}
 use Rattle.boxlist.specs.declared.order.Stage.{Stage}
@@ -44,8 +46,8 @@ told s after line reading.Ended r e f = no-end line s r e
 told s after line (reading.Record q) r e f = go (stageAfter s q) refl e f
   where
     limited : (t : Bool) (s′ : Stage) → stageAfter s q ≡ Some s′ →
-        Ok (Some r) ≡ answerOf (cond t (Ok (Some (record { read = q; stage = s′ }))) (Err (Rattle.boxlist.specs.Reading.textFault line 1))) →
-        after ≡ stageOf s (cond t (Ok (Some (record { read = q; stage = s′ }))) (Err (Rattle.boxlist.specs.Reading.textFault line 1))) → Told s (reading.Record q) r after
+        Ok (Some r) ≡ answerOf (cond t (Ok (Some (record { read = q; stage = s′ }))) (Err (textFault line Limits))) →
+        after ≡ stageOf s (cond t (Ok (Some (record { read = q; stage = s′ }))) (Err (textFault line Limits))) → Told s (reading.Record q) r after
     limited true s′ p e f = let same : r ≡ q = cc in record { passes = refl; placed = ap (stageAfter s) same ∙ p ∙ ap Some (sym f) }
     limited false s′ p e f = let z : _≡_ {A = ℕ} 0 1 = cc in absurd (omega arith)
 

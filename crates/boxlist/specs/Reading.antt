@@ -4,14 +4,14 @@ use mathlib.Core.Bool.{Bool, true, false, cond}
 use mathlib.Core.List.{List, [], _∷_, map}
 use mathlib.Core.Logic.{_⊎_}
 use Prim.Native.Nat.{ℕ, _+_, _*_, _<_, _≤_}
-use lib.Dec.{ltb}
 use lib.ListN.{length, take, drop}
 use Rattle.std.specs.declared.option.Option.{Option}
 use Rattle.std.specs.declared.option.Option.the-variants.{Some, None}
 use Rattle.std.specs.declared.result.Result.{Result}
 use Rattle.std.specs.declared.result.Result.the-variants.{Ok, Err}
 use Rattle.boxlist.specs.declared.faults.Fault.{Fault}
-use Rattle.boxlist.specs.declared.faults.Layer.the-variants.{Text}
+use Rattle.boxlist.specs.declared.faults.TextCause.the-variants.{Limits, NoRecord, OutOfPlace}
+use Rattle.boxlist.specs.Faults.{textFault}
 use Rattle.boxlist.specs.declared.list.Placed.{Placed}
 use Rattle.boxlist.specs.declared.order.Stage.{Stage}
 use Rattle.boxlist.specs.declared.order.Stage.the-variants.{Start, Classes, Entries, Content, Ended}
@@ -24,28 +24,21 @@ use Rattle.boxlist.specs.declared.list.BoxList.{BoxList}
 use Rattle.boxlist.specs.Lines.{Answers, lineAt, linesPassed}
 use Rattle.boxlist.specs.Order.{toCome, stageAfter, headWithin, itemOf}
 
-abbrev pub textFault : ℕ → ℕ → Fault
-textFault line cause = record { line = line; layer = Text; cause = cause }
-
--- a text of more than 8,192 bytes is not read
-abbrev pub lengthFault : ℕ → Option Fault
-lengthFault n = cond (ltb 8192 n) (Some (textFault 0 7)) None
-
 abbrev pub afterEnd : ℕ → Stage → Result (Option Placed) Fault
-afterEnd line Start = Err (textFault line 9)
-afterEnd line (Classes above) = Err (textFault line 9)
-afterEnd line Entries = Err (textFault line 9)
-afterEnd line (Content left) = Err (textFault line 9)
+afterEnd line Start = Err (textFault line OutOfPlace)
+afterEnd line (Classes above) = Err (textFault line OutOfPlace)
+afterEnd line Entries = Err (textFault line OutOfPlace)
+afterEnd line (Content left) = Err (textFault line OutOfPlace)
 afterEnd line Ended = Ok None
 
 abbrev pub inPlace : ℕ → Record → Option Stage → Result (Option Placed) Fault
-inPlace line r None = Err (textFault line 9)
-inPlace line r (Some s) = cond (headWithin r) (Ok (Some (record { read = r; stage = s }))) (Err (textFault line 1))
+inPlace line r None = Err (textFault line OutOfPlace)
+inPlace line r (Some s) = cond (headWithin r) (Ok (Some (record { read = r; stage = s }))) (Err (textFault line Limits))
 
 -- no record is tested first, then its place, then the limits of settings and classes; the text may end only after the
 -- end's record
 abbrev pub outcomeOf : Stage → ℕ → Reading → Result (Option Placed) Fault
-outcomeOf s line reading.NoRecord = Err (textFault line 8)
+outcomeOf s line reading.NoRecord = Err (textFault line NoRecord)
 outcomeOf s line reading.Ended = afterEnd line s
 outcomeOf s line (reading.Record r) = inPlace line r (stageAfter s r)
 

@@ -1,35 +1,37 @@
 // What a text is refused for, and where.
 ghost use mathlib.Core.Path.{_≡_};
-ghost use Prim.Native.Nat.{_+_, _-_, _^_, min};
-ghost use Rattle.items.specs.Refusals.{numberOf};
-ghost use Rattle.boxlist.specs.Reading.{lengthFault};
 ghost use Rattle.boxlist.specs.declared.faults.Layer.the-variants.{Galley};
+ghost use Rattle.boxlist.specs.Faults.{lineOfFault, causeOf, lengthFault};
 use items::refusals::Refusal;
 
 // What the text itself is refused for.
-pub const OUTSIDE_LIMITS: u32 = 1;
-
-pub const TOO_LONG: u32 = 7;
-
-pub const NO_RECORD: u32 = 8;
-
-pub const OUT_OF_PLACE: u32 = 9;
-
 #[derive(Clone, Copy)]
-pub enum Layer {
-    Text,
-    Galley,
+pub enum TextCause {
+    // a setting or a class value is outside its limits
+    Limits,
+    // the text is too long
+    TooLong,
+    // the line is no record
+    NoRecord,
+    // the record is out of its place, or the text ends early
+    OutOfPlace,
 }
 
+// A fault is of the text, or a refusal of the galley, carried whole.
+#[derive(Clone, Copy)]
+pub enum Layer {
+    Text(TextCause),
+    Galley(Refusal),
+}
+
+// `line` is that of the record, or of the item or note that the galley refused.
 #[derive(Clone, Copy)]
 pub struct Fault {
     pub line: usize,
     pub layer: Layer,
-    pub cause: u32,
 }
 
-// A refusal of the galley, met at the line of an item or of a note. The faulty entry's line is as many below as the
-// refusal's offset; a sum that does not fit stays at the largest number.
+// A refusal of the galley, met at the line of an item or of a note.
 #[derive(Clone, Copy)]
 pub struct Met {
     pub line: usize,
@@ -37,13 +39,38 @@ pub struct Met {
 }
 
 pub impl From<Met> for Fault as FaultFromMet {
-    ghost converts = { λ m f. (f .line ≡ min (m .line + m .refusal .offset) (2 ^ 64 - 1)) × (f .layer ≡ Galley) × (f .cause ≡ numberOf (m .refusal .cause)) };
+    ghost converts = { λ m f. (f .line ≡ m .line) × (f .layer ≡ Galley (m .refusal)) };
 
     fn from(met: Met) -> Fault {
         Fault {
-            line: met.line.saturating_add(met.refusal.offset),
-            layer: Layer::Galley,
-            cause: met.refusal.cause.number(),
+            line: met.line,
+            layer: Layer::Galley(met.refusal),
+        }
+    }
+}
+
+impl Fault {
+    // The faulty record's line: in a note's content it is as many below the note's as the offset. A sum that does not fit
+    // stays at the largest number.
+    pub fn faulty_line(self) -> usize
+        ensures { λ r. ⌜ r ≡ lineOfFault self ⌝ }
+    {
+        match self.layer {
+            Layer::Text(_) => self.line,
+            Layer::Galley(refusal) => self.line.saturating_add(refusal.offset),
+        }
+    }
+
+    // The cause's number in the table of refusals.
+    pub fn cause(self) -> u32
+        ensures { λ r. ⌜ r ≡ causeOf self ⌝ }
+    {
+        match self.layer {
+            Layer::Text(TextCause::Limits) => 1,
+            Layer::Text(TextCause::TooLong) => 7,
+            Layer::Text(TextCause::NoRecord) => 8,
+            Layer::Text(TextCause::OutOfPlace) => 9,
+            Layer::Galley(refusal) => refusal.cause.number(),
         }
     }
 }
@@ -58,8 +85,7 @@ pub fn length_fault(len: usize) -> Option<Fault>
     if len > LONGEST {
         Some(Fault {
             line: 0,
-            layer: Layer::Text,
-            cause: TOO_LONG,
+            layer: Layer::Text(TextCause::TooLong),
         })
     } else {
         None

@@ -4,13 +4,12 @@ ghost use Prim.Native.Nat.{_<_, _≤_};
 ghost use lib.ListN.{length};
 ghost use Rattle.std.specs.declared.result.Result.the-variants.{Err};
 ghost use Rattle.boxlist.specs.declared.order.Stage.the-variants.{Start};
+ghost use Rattle.boxlist.specs.Faults.{textFault};
 ghost use Rattle.boxlist.specs.Order.{owing};
-ghost use Rattle.boxlist.specs.Reading.{textFault, outcomeOf, ReadOne, InContent, ReadItem, ReadContent, ReadEntry};
+ghost use Rattle.boxlist.specs.Reading.{outcomeOf, ReadOne, InContent, ReadItem, ReadContent, ReadEntry};
 use crate::faults::Fault;
 use crate::faults::Layer;
-use crate::faults::NO_RECORD;
-use crate::faults::OUT_OF_PLACE;
-use crate::faults::OUTSIDE_LIMITS;
+use crate::faults::TextCause;
 use crate::order::Stage;
 use crate::reader::Reader;
 use crate::reader::Reading;
@@ -31,13 +30,12 @@ pub struct Placed {
     pub stage: Stage,
 }
 
-fn text_fault(line: usize, cause: u32) -> Fault
+fn text_fault(line: usize, cause: TextCause) -> Fault
     ensures { λ r. ⌜ r ≡ textFault line cause ⌝ }
 {
     Fault {
         line,
-        layer: Layer::Text,
-        cause,
+        layer: Layer::Text(cause),
     }
 }
 
@@ -46,17 +44,17 @@ fn outcome(stage: Stage, line: usize, reading: Reading) -> Result<Option<Placed>
     ensures { λ r. ⌜ r ≡ outcomeOf stage line reading ⌝ }
 {
     let read = match reading {
-        Reading::NoRecord => return Err(text_fault(line, NO_RECORD)),
+        Reading::NoRecord => return Err(text_fault(line, TextCause::NoRecord)),
         Reading::Ended => return ended(stage, line),
         Reading::Record(read) => read,
     };
     match stage.after(read) {
-        None => Err(text_fault(line, OUT_OF_PLACE)),
+        None => Err(text_fault(line, TextCause::OutOfPlace)),
         Some(stage) => {
             if read.within_limits() {
                 Ok(Some(Placed { read, stage }))
             } else {
-                Err(text_fault(line, OUTSIDE_LIMITS))
+                Err(text_fault(line, TextCause::Limits))
             }
         }
     }
@@ -68,7 +66,7 @@ fn ended(stage: Stage, line: usize) -> Result<Option<Placed>, Fault>
 {
     match stage {
         Stage::Ended => Ok(None),
-        _ => Err(text_fault(line, OUT_OF_PLACE)),
+        _ => Err(text_fault(line, TextCause::OutOfPlace)),
     }
 }
 
@@ -140,10 +138,10 @@ impl<'a> BoxList<'a> {
     // table, which is refused by 1 if it is shorter than the text, so that any content fits.
     pub fn entry(&mut self, table: &mut [Item]) -> Result<Option<Record>, Fault>
         ensures read { λ r. ⌜ (length (now (self .entry) .reader .text .now) ≤ length (now (table .entry)) → ReadEntry (now (self .entry)) (now (self .exit)) (now (table .entry)) (now (table .exit)) r) ⌝ }
-        ensures short { λ r. ⌜ (length (now (table .entry)) < length (now (self .entry) .reader .text .now) → (r ≡ Err (textFault (now (self .entry) .reader .line) 1)) × (now (self .exit) ≡ now (self .entry)) × (now (table .exit) ≡ now (table .entry))) ⌝ }
+        ensures short { λ r. ⌜ (length (now (table .entry)) < length (now (self .entry) .reader .text .now) → (r ≡ Err (textFault (now (self .entry) .reader .line) TextCause.Limits)) × (now (self .exit) ≡ now (self .entry)) × (now (table .exit) ≡ now (table .entry))) ⌝ }
     {
         if table.len() < self.reader.text_len() {
-            return Err(text_fault(self.reader.line(), OUTSIDE_LIMITS));
+            return Err(text_fault(self.reader.line(), TextCause::Limits));
         }
         self.whole_entry(table)
     }

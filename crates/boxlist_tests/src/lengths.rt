@@ -29,5 +29,5 @@ fn the_longest_text() -> Result<(), Fail> {
         return Err(Fail::new("8,193 bytes are let through"));
     };
     check_eq(fault.line, 0)?;
-    check_eq(fault.cause, 7)
+    check_eq(fault.cause(), 7)
 }

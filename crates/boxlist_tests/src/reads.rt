@@ -19,9 +19,9 @@ fn first_fault(text: &[u8]) -> Option<Fault> {
 pub(crate) fn check_fault(text: &[u8], line: usize, cause: u32) -> Result<(), Fail> {
     match first_fault(text) {
         Some(fault) => {
-            check_eq(fault.line, line).note("the line")?;
-            check_eq(fault.cause, cause).note("the cause")?;
-            check(matches!(fault.layer, Layer::Text)).note("the layer")
+            check_eq(fault.faulty_line(), line).note("the line")?;
+            check_eq(fault.cause(), cause).note("the cause")?;
+            check(matches!(fault.layer, Layer::Text(_))).note("the layer")
         }
         None => Err(Fail::new("no fault was found")),
     }

@@ -51,6 +51,14 @@ fn refused(cause: Cause) -> Refusal {
     Refusal { cause, offset: 0 }
 }
 
+// What is refused of an entry, with its line.
+fn met_at(line: usize, result: Result<Happened, Refusal>) -> Result<Happened, Met> {
+    match result {
+        Ok(happened) => Ok(happened),
+        Err(refusal) => Err(Met { line, refusal }),
+    }
+}
+
 // The rows of a note's content, as far as there are rows.
 fn fill(rows: &mut [Row], content: &[Item]) {
     for i in 0..content.len() {
@@ -181,9 +189,6 @@ impl Galley {
         if let Record::Note { count: items, .. } = read {
             count = (items as usize).min(content.len());
         }
-        match self.entry(read, &content[0..count], rows, parts) {
-            Ok(happened) => Ok(happened),
-            Err(refusal) => Err(Met { line, refusal }.into()),
-        }
+        Ok(met_at(line, self.entry(read, &content[0..count], rows, parts))?)
     }
 }

@@ -55,10 +55,10 @@ pub(crate) fn note(rt: &impl Print, note: SplitNote, parts: &[Part]) -> io::Resu
 }
 
 pub(crate) fn fault(rt: &impl Print, fault: Fault) -> io::Result<()> {
-    let line = fault.line;
-    let cause = fault.cause;
+    let line = fault.faulty_line();
+    let cause = fault.cause();
     match fault.layer {
-        Layer::Text => println!(rt, "FA {line} T {cause}"),
-        Layer::Galley => println!(rt, "FA {line} G {cause}"),
+        Layer::Text(_) => println!(rt, "FA {line} T {cause}"),
+        Layer::Galley(_) => println!(rt, "FA {line} G {cause}"),
     }
 }

@@ -8,7 +8,6 @@ use lib.Dec.{eqb}
 use lib.ListN.{length, take, drop, set}
 use Rattle.std.specs.declared.option.Option.{Option}
 use Rattle.std.specs.declared.option.Option.the-variants.{Some, None}
-use Rattle.std.specs.declared.result.Result.{Result}
 use Rattle.std.specs.declared.result.Result.the-variants.{Ok, Err}
 use Rattle.std.proofs.shelf.Lists.{map-push, take-more-set, drop-set-lt, drop-drop, length-push}
 use Rattle.std.proofs.shelf.Tests.{ne-eqb}
@@ -17,7 +16,6 @@ use Rattle.boxlist.specs.declared.faults.Fault.{Fault}
 use Rattle.boxlist.specs.declared.faults.TextCause.the-variants.{Limits}
 use Rattle.boxlist.specs.Faults.{textFault}
 use Rattle.boxlist.specs.declared.list.BoxList.{BoxList}
-use Rattle.boxlist.specs.declared.list.Placed.{Placed}
 use Rattle.boxlist.specs.declared.order.Stage.{Stage}
 use Rattle.boxlist.specs.declared.order.Stage.the-variants.{Start, Classes, Entries, Content, Ended}
 use Rattle.boxlist.specs.declared.reader.Reading.{Reading}

@@ -1,6 +1,6 @@
 -- What is told of each line of a box list.
 use mathlib.Core.Path.{_≡_}
-use mathlib.Core.Bool.{Bool, true, false, cond}
+use mathlib.Core.Bool.{cond}
 use mathlib.Core.List.{List, [], _∷_, map}
 use mathlib.Core.Logic.{_⊎_}
 use Prim.Native.Nat.{ℕ, _+_, _*_, _<_, _≤_}
@@ -18,7 +18,7 @@ use Rattle.boxlist.specs.declared.order.Stage.the-variants.{Start, Classes, En
 use Rattle.boxlist.specs.declared.reader.Reading.{Reading}
 use Rattle.boxlist.specs.declared.reader.Reading.the-variants as reading
 use Rattle.boxlist.specs.declared.records.Record.{Record}
-use Rattle.boxlist.specs.declared.records.Record.the-variants.{Settings, Class, Box, Glue, Kern, Penalty, Note, End}
+use Rattle.boxlist.specs.declared.records.Record.the-variants.{Class, Box, End}
 use Rattle.items.specs.declared.Item.{Item}
 use Rattle.boxlist.specs.declared.list.BoxList.{BoxList}
 use Rattle.boxlist.specs.Lines.{Answers, lineAt, linesPassed}

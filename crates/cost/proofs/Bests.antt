@@ -1,5 +1,4 @@
 -- What the least-cost rule keeps is one of the two, so what holds of both holds of it.
-use mathlib.Core.Path.{_≡_, refl}
 use mathlib.Core.Bool.{Bool, true, false, cond}
 use mathlib.Core.List.{List, [], _∷_}
 use lib.IntN.{ℤ, pos}

@@ -2,26 +2,25 @@
 use mathlib.Core.Path.{_≡_, refl, sym, ap, _∙_, subst}
 use mathlib.Core.Bool.{Bool, true, false, cond}
 use mathlib.Core.List.{List, [], _∷_, _++_}
-use Prim.Native.Nat.{ℕ, zero, suc, _+_, _-_, _≤_, _<_}
-use native.Mathlib.Nat.{zero-add, add-suc, add-zero}
+use Prim.Native.Nat.{ℕ, zero, suc, _+_, _-_, _≤_}
+use native.Mathlib.Nat.{zero-add, add-zero}
 use native.Mathlib.Omega.{arith}
 use lib.Dec.{ltb}
 use lib.IntN.{ℤ}
 use lib.ListN.{length, take, drop}
-use Rattle.std.specs.Options.{mapped, Cases}
+use Rattle.std.specs.Options.{mapped}
 use Rattle.std.specs.declared.option.Option.{Option}
 use Rattle.std.specs.declared.option.Option.the-variants.{Some, None}
-use Rattle.std.specs.shelf.Lists.{All, leading, joined}
-use Rattle.std.proofs.shelf.Lists.{append-assoc, append-nil, length-drop, drop-drop}
+use Rattle.std.specs.shelf.Lists.{All, leading}
+use Rattle.std.proofs.shelf.Lists.{append-assoc, length-drop}
 use Rattle.std.proofs.shelf.Sums.{leading-le-length}
-use Rattle.std.proofs.shelf.Tests.{ltb-true}
 use Rattle.items.specs.declared.Item.{Item}
 use Rattle.items.specs.Lists.{span}
 use Rattle.items.specs.Items.{isDiscardable}
 use Rattle.notes.specs.declared.NoteBreak.{NoteBreak}
 use Rattle.notes.specs.declared.split.Part.{Part}
 use Rattle.notes.specs.Break.{breakOf}
-use Rattle.notes.specs.Split.{pieceOf, droppedOf, endOf, partAt, partFrom, partsFrom, restAfter, InOrder, OnlyDiscardable}
+use Rattle.notes.specs.Split.{pieceOf, droppedOf, endOf, partAt, partFrom, partsFrom, InOrder, OnlyDiscardable}
 use Rattle.notes.proofs.Places.{break-within}
 
 -- a part of the items from `first` on

@@ -1,5 +1,5 @@
 -- A break that fits, is not ordered and meets no forbidding notes costs the sum of the three.
-use mathlib.Core.Path.{_≡_, _∙_, sym}
+use mathlib.Core.Path.{_≡_}
 use mathlib.Core.Bool.{true, false}
 use Prim.Native.Nat.{ℕ, _<_}
 use native.Mathlib.Omega.{arith}
@@ -7,7 +7,6 @@ use lib.Dec.{eqb, ltb}
 use lib.IntN.{ℤ, pos, _+ℤ_}
 use lib.Signed.{leZ}
 use borrow.Author.Differences.{ints}
-use borrow.Author.Needs.{needs}
 use Rattle.std.proofs.shelf.Tests.{ne-eqb, lt-ltb}
 use Rattle.std.proofs.shelf.Signed.{toZ-ofZ}
 use Rattle.items.specs.Items.{most}

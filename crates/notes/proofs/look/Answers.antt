@@ -1,7 +1,6 @@
 -- The place is a step of the walk.
-use mathlib.Core.Path.{_≡_, sym, _∙_}
+use mathlib.Core.Path.{sym, _∙_}
 use native.Mathlib.Omega.{arith}
-use lib.IntN.{ℤ}
 use lib.ListN.{take, drop}
 use mir.Val.{SFits}
 use mir.Syntax.{w32}

@@ -1,7 +1,5 @@
 -- The end is the walk's last place.
-use mathlib.Core.Path.{_≡_}
 use native.Mathlib.Omega.{arith}
-use lib.IntN.{ℤ}
 use lib.ListN.{length}
 use borrow.Author.Differences.{ints}
 use Rattle.std.proofs.shelf.Lists.{length-map}

@@ -1,5 +1,5 @@
 -- The item passed is within its limits, and is the next of the sums.
-use mathlib.Core.Path.{_≡_, sym, ap, _∙_}
+use mathlib.Core.Path.{sym, ap, _∙_}
 use native.Mathlib.Omega.{arith}
 use lib.ListN.{take, getD}
 use Rattle.std.proofs.shelf.Lists.{length-map}

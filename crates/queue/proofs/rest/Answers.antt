@@ -1,9 +1,7 @@
 -- The others are one place on.
-use mathlib.Core.Path.{_≡_, sym, ap, _∙_}
+use mathlib.Core.Path.{ap, _∙_}
 use Prim.Native.Nat.{_-_}
 use native.Mathlib.Omega.{arith}
-use lib.ListN.{drop}
-use Rattle.queue.specs.declared.Queue.{Queue}
 use Rattle.queue.specs.Queues.{listOf}
 use Rattle.queue.proofs.Rings.{rest-is}
 use Rattle.queue.proofs.rest.Needs as need

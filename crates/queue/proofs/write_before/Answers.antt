@@ -2,7 +2,6 @@
 use mathlib.Core.Path.{ap, _∙_}
 use Prim.Native.Nat.{_+_}
 use lib.ListN.{set}
-use Rattle.queue.specs.declared.Queue.{Queue}
 use Rattle.queue.specs.Queues.{listOf}
 use Rattle.queue.proofs.Rings.{pushed-front}
 use Rattle.queue.proofs.write_before.Needs as need

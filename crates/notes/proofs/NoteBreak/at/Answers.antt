@@ -1,9 +1,9 @@
 -- What went through the machine's numbers is what it was.
-use mathlib.Core.Path.{_≡_, ap, _∙_}
+use mathlib.Core.Path.{_≡_}
 use Prim.Native.Nat.{_<_, _^_}
 use native.Mathlib.Omega.{arith}
 use lib.IntN.{ℤ, pos, _+ℤ_, natAbs}
-use mir.Val.{SFits, toZ, ofZ}
+use mir.Val.{toZ, ofZ}
 use mir.Syntax.{w32, w64}
 use borrow.Author.Differences.{ints}
 use borrow.Author.Needs.{needs}

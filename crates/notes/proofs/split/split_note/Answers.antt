@@ -1,8 +1,8 @@
 -- What is not refused may be split, and the table then holds the parts.
 use mathlib.Core.Path.{_≡_, refl, sym, ap, _∙_, subst}
 use mathlib.Core.Bool.{Bool, true, false, cond, not, _||_}
-use mathlib.Core.List.{List, _++_}
-use Prim.Native.Nat.{ℕ, _+_, _≤_}
+use mathlib.Core.List.{List}
+use Prim.Native.Nat.{ℕ, _≤_}
 use native.Mathlib.Omega.{arith}
 use lib.Dec.{ltb, eqb}
 use lib.IntN.{ℤ}
@@ -15,9 +15,8 @@ use Rattle.std.proofs.shelf.Tests.{ltb-false, or-parts}
 use Rattle.items.specs.declared.Item.{Item}
 use Rattle.items.specs.declared.Row.{Row}
 use Rattle.items.specs.declared.refusals.Refusal.{Refusal}
-use Rattle.items.specs.declared.refusals.Cause.the-variants.{Limits, NoContent, Nested, Value}
+use Rattle.items.specs.declared.refusals.Cause.the-variants.{Limits}
 use Rattle.items.specs.Items.{itemsOf, isNote, withinLimits, most}
-use Rattle.items.specs.Refusals.{refusedAfter}
 use Rattle.notes.specs.declared.split.Part.{Part}
 use Rattle.notes.specs.declared.split.Split.{Split}
 use Rattle.notes.specs.Break.{Within}

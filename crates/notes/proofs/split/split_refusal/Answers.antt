@@ -1,21 +1,16 @@
 -- The tests are those of the definition.
 use mathlib.Core.Path.{_≡_, sym, ap, _∙_}
-use mathlib.Core.Bool.{Bool, true, false, cond, _||_}
+use mathlib.Core.Bool.{Bool, true, false, _||_}
 use mathlib.Core.List.{List}
-use mathlib.Core.Logic.{_⊎_, inl, inr, ⊎-elim}
-use Prim.Native.Nat.{ℕ, _<_, _≤_}
+use Prim.Native.Nat.{ℕ, _≤_}
 use native.Mathlib.Omega.{arith}
 use lib.Dec.{ltb, eqb}
 use lib.ListN.{length}
-use Rattle.std.specs.declared.option.Option.{Option}
-use Rattle.std.specs.declared.option.Option.the-variants.{Some}
 use Rattle.std.proofs.shelf.Lists.{length-map}
-use Rattle.std.proofs.shelf.Tests.{le-ltb, lt-ltb, or-left, or-right}
+use Rattle.std.proofs.shelf.Tests.{le-ltb}
 use Rattle.std.proofs.shelf.Ways.{tells}
 use Rattle.items.specs.declared.Row.{Row}
-use Rattle.items.specs.declared.refusals.Refusal.{Refusal}
 use Rattle.items.specs.Items.{itemsOf, most}
-use Rattle.notes.specs.Split.{splitRefusal}
 use Rattle.notes.proofs.split.split_refusal.Needs as need
 
 module _ (rows : List Row) (heights depth room : ℕ) where

@@ -6,7 +6,6 @@ use lib.IntN.{natAbs}
 use lib.ListN.{length, getD}
 use borrow.Author.Needs.{needs}
 use Rattle.std.proofs.shelf.Elements.{all-getD}
-use Rattle.items.specs.Items.{withinLimits}
 use Rattle.cost.specs.declared.sums.Sums.{Sums}
 use Rattle.cost.proofs.Within.{glue-within}
 use Rattle.cost.proofs.sums.Sums.add.Needs as need

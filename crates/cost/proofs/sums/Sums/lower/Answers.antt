@@ -1,11 +1,9 @@
 -- The total moves by a depth and a height.
-use mathlib.Core.Path.{_≡_, ap}
-use Prim.Native.Nat.{ℕ, _<_, _+_, _^_}
+use Prim.Native.Nat.{_<_, _^_}
 use native.Mathlib.Omega.{arith}
-use lib.IntN.{ℤ, pos, _+ℤ_, natAbs}
+use lib.IntN.{natAbs}
 use borrow.Author.Differences.{ints}
 use borrow.Author.Needs.{needs}
-use Rattle.cost.specs.declared.sums.Sums.{Sums}
 use Rattle.cost.proofs.sums.Sums.lower.Needs as need
 
 pub returns : need.returns

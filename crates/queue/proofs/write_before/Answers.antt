@@ -10,7 +10,7 @@ returns g c =
     let cells = c.args.cells.now in
     record {
       list =
-          ap (λ p. list_of (record { head = p; len = q.len + 1 }) (set cells p c.args.x)) c.cell-before-at.ensures.place ∙
+          ap (λ p. list_of (record { head = p; len = q.len + 1 }) (set cells p c.args.x)) c.cell_before-at.ensures.place ∙
           pushed_front q cells c.args.x c.requires.within c.requires.room;
-      within = c.cell-before-at.ensures.within;
+      within = c.cell_before-at.ensures.within;
     }

@@ -9,8 +9,8 @@ use Rattle.cost.proofs.sums.Sums.add.Goals.{in-Box, in-Glue, in-Kern, in-Penalty
 abbrev Low : Sums → Type 0
 Low s = nat_abs s.total < 2 ^ 62 + 2 ^ 33
 
-pub overflow-add-self : goal.overflow-add-self
-overflow-add-self c =
+pub overflow_add-self : goal.overflow_add-self
+overflow_add-self c =
     let within = glue_within c.in-Glue.width c.in-Glue.stretch c.in-Glue.order c.in-Glue.shrink (rw c.in-Glue.is at c.requires.within) in
     let same : c.lower-in-Glue.new.self.stretch ≡ c.args.self.now.stretch = ap (λ (s : Sums). s.stretch) c.lower-in-Glue.ensures.after in
     let four : length c.args.self.now.stretch ≡ 4 = search rules in

@@ -25,13 +25,13 @@ returns-else-endless c =
     let f = c.ranges.goal in
     let g : SFits w64 c.args.self.now.total = search rules in
     let h = apart c.args.goal c.args.self.now.total c.requires.goal c.requires.total in
-    stretched c.args.goal c.args.self.now c.unsigned-abs-gap.result c.badness.result
-    (simp to_z-of_z at c.unsigned-abs-gap.ensures.value) (simp to_z-of_z at c.if-self-goal.true) (sym c.if-endless.ensures) c.badness.ensures.value
+    stretched c.args.goal c.args.self.now c.unsigned_abs-gap.result c.badness.result
+    (simp to_z-of_z at c.unsigned_abs-gap.ensures.value) (simp to_z-of_z at c.if-self-goal.true) (sym c.if-endless.ensures) c.badness.ensures.value
 
 pub returns-else-gap-self : goal.returns-else-gap-self
 returns-else-gap-self c =
     let f = c.ranges.goal in
     let g : SFits w64 c.args.self.now.total = search rules in
     let h = apart c.args.goal c.args.self.now.total c.requires.goal c.requires.total in
-    shrunk c.args.goal c.args.self.now c.unsigned-abs-gap.result c.badness-else-gap-self.result
-    (simp to_z-of_z at c.unsigned-abs-gap.ensures.value) (simp to_z-of_z at c.if-self-goal.false) (omega arith) c.badness-else-gap-self.ensures.value
+    shrunk c.args.goal c.args.self.now c.unsigned_abs-gap.result c.badness-else-gap-self.result
+    (simp to_z-of_z at c.unsigned_abs-gap.ensures.value) (simp to_z-of_z at c.if-self-goal.false) (omega arith) c.badness-else-gap-self.ensures.value

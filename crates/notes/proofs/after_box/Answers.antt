@@ -10,4 +10,4 @@ returns c =
     let k = c.args.k in
     let l : k - 1 < length rows = omega arith in
     let e : k - 1 + 1 ≡ k = omega arith in
-    c.is-box.ensures ∙ sym (last_is_at rows (k - 1) _ l is_box) ∙ ap (λ n. last_is is_box (take n (items_of rows))) e
+    c.is_box.ensures ∙ sym (last_is_at rows (k - 1) _ l is_box) ∙ ap (λ n. last_is is_box (take n (items_of rows))) e

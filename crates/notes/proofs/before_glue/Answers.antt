@@ -7,7 +7,7 @@ use Rattle.notes.proofs.Ends.{first_is_at}
 use Rattle.notes.proofs.before_glue.Goals as goal
 
 pub returns-then-k-rows : goal.returns-then-k-rows
-returns-then-k-rows c = c.is-glue.ensures ∙ sym (first_is_at c.args.rows.now c.args.k _ c.if-k-rows.true is_glue)
+returns-then-k-rows c = c.is_glue.ensures ∙ sym (first_is_at c.args.rows.now c.args.k _ c.if-k-rows.true is_glue)
 
 pub returns-else-k-rows : goal.returns-else-k-rows
 returns-else-k-rows c =

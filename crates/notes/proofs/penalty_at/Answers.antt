@@ -14,5 +14,5 @@ asked rows k r a b l p q e =
 
 pub returns : goal.returns
 returns c =
-    asked c.args.rows.now c.args.k c.penalty-before.result c.after-box.result c.before-glue.result c.requires.within
-    c.after-box.ensures c.before-glue.ensures c.penalty-before.ensures
+    asked c.args.rows.now c.args.k c.penalty_before.result c.after_box.result c.before_glue.result c.requires.within
+    c.after_box.ensures c.before_glue.ensures c.penalty_before.ensures

@@ -27,6 +27,6 @@ returns c =
     let h : SFits w64 c.at-here.result.cost = search rules in
     let here = here_is c.at-here.result c.args.column.height c.args.place c.args.before.now c.args.penalty (search rules) g c.at-here.ensures in
     record {
-      best = c.least.ensures.last-of-the-least ∙ ap (least (λ (b : NoteBreak). b.cost) c.args.best) here;
+      best = c.least.ensures.last_of_the_least ∙ ap (least (λ (b : NoteBreak). b.cost) c.args.best) here;
       ends = simp to_z-of_z at c.stops.ensures ∙ ap (λ (b : NoteBreak). stops b.cost c.args.penalty) here;
     }

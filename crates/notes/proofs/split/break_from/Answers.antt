@@ -5,8 +5,8 @@ use Rattle.notes.specs.Break.{Within, break_of}
 use Rattle.notes.proofs.Rests.{rest_is, rest_length}
 use Rattle.notes.proofs.split.break_from.Goals as goal
 
-pub break-note-requires : goal.break-note-requires
-break-note-requires c =
+pub break_note-requires : goal.break_note-requires
+break_note-requires c =
     let rows = c.args.rows.now in
     record {
       content = subst Within (sym (rest_is rows c.args.first)) (All-drop (λ x. within_limits x ≡ true) c.args.first (items_of rows) c.requires.content);
@@ -18,6 +18,6 @@ pub returns : goal.returns
 returns c =
     let rows = c.args.rows.now in
     record {
-      best = c.break-note.ensures.best ∙ ap (λ xs. break_of xs c.args.column.height c.args.column.depth) (rest_is rows c.args.first);
-      place = omega (arith, rest_length rows c.args.first, c.break-note.ensures.place, c.requires.first);
+      best = c.break_note.ensures.best ∙ ap (λ xs. break_of xs c.args.column.height c.args.column.depth) (rest_is rows c.args.first);
+      place = omega (arith, rest_length rows c.args.first, c.break_note.ensures.place, c.requires.first);
     }

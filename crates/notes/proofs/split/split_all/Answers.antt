@@ -15,8 +15,8 @@ loop-split-preserved c =
     let f : SFits w32 (get_or c.args.wanted.now c.loop-split.split.count (pos 0)) = search rules in
     let same = widened (get_or c.args.wanted.now c.loop-split.split.count (pos 0)) f in
     splitting_more (items_of c.args.rows.now) c.args.wanted.now c.args.depth c.args.parts.now c.loop-split.parts c.loop-split.split c.loop-split.invariant
-    c.loop-split.auto.parts c.requires.room c.split-off-part.result c.loop-split-test.true (simp length-map c.if-split-rows.true)
-    (simp length-map c.split-off-part.ensures.end) (c.split-off-part.ensures.part ∙ ap (λ h. part_from (items_of c.args.rows.now) (record { height = h; depth = c.args.depth }) c.loop-split.split.rest) same)
+    c.loop-split.auto.parts c.requires.room c.split_off-part.result c.loop-split-test.true (simp length-map c.if-split-rows.true)
+    (simp length-map c.split_off-part.ensures.end) (c.split_off-part.ensures.part ∙ ap (λ h. part_from (items_of c.args.rows.now) (record { height = h; depth = c.args.depth }) c.loop-split.split.rest) same)
 
 pub returns-else-split-rows : goal.returns-else-split-rows
 returns-else-split-rows c =

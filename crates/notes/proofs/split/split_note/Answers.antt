@@ -33,9 +33,9 @@ accepted items heights depth room e =
 parts_are : (items : List Item) (ws : List ℤ) (d : ℕ) (before after : List Part) (s : Split) → SplitInto items ws d before after s → take s.count after ≡ parts_from items d 0 ws
 parts_are items ws d before after s h = ap (take s.count) h.table ∙ take_at (parts_from items d 0 ws) (drop s.count before) s.count (sym h.count)
 
-pub split-all-requires : goal.split-all-requires
-split-all-requires c =
-    let a = accepted (items_of c.args.rows.now) (length c.args.wanted.now) c.args.depth (length c.args.parts.now) (sym c.in-default.ensures) in
+pub split_all-requires : goal.split_all-requires
+split_all-requires c =
+    let a = accepted (items_of c.args.rows.now) (length c.args.wanted.now) c.args.depth (length c.args.parts.now) (sym c.in_default.ensures) in
     record { content = a.within; short = simp length-map at a.short; room = a.fits }
 
 pub returns : goal.returns
@@ -45,10 +45,10 @@ returns c =
     let is = c.split_all.ensures.split in
     let parts = parts_are items c.args.wanted.now c.args.depth c.args.parts.now c.split_all.new.parts c.split_all.result is in
     record {
-      answered = (sym c.in-default.ensures, is);
+      answered = (sym c.in_default.ensures, is);
       bounds = c.split_all.ensures.bounds;
-      each-once-and-in-order =
+      each_once_and_in_order =
           subst (λ n. InOrder 0 n (take c.split_all.result.count c.split_all.new.parts)) same
           (subst (InOrder 0 (length items)) (sym parts) (parts_in_order items c.args.depth 0 c.args.wanted.now (omega arith)));
-      only-discardable-dropped = subst (OnlyDiscardable items) (sym parts) (parts_drop_discardable items c.args.depth 0 c.args.wanted.now (omega arith));
+      only_discardable_dropped = subst (OnlyDiscardable items) (sym parts) (parts_drop_discardable items c.args.depth 0 c.args.wanted.now (omega arith));
     }

@@ -27,18 +27,18 @@ returns-then-room-heights c =
     let o : outside c.args.rows.now c.args.heights c.args.depth c.args.room ≡ true = grind (arith, nat_tests) in
     sym (rw o)
 
-pub returns-then-is-empty : goal.returns-then-is-empty
-returns-then-is-empty c =
+pub returns-then-is_empty : goal.returns-then-is_empty
+returns-then-is_empty c =
     let rows = c.args.rows.now in
     let l = c.if-room-heights.false in
     let o = within rows c.args.heights c.args.depth c.args.room l.0 l.1 l.2 in
-    let e : eqb (length (items_of rows)) 0 ≡ true = ap (λ n. eqb n 0) (same rows 0 0 0) ∙ sym c.if-is-empty.ensures in
+    let e : eqb (length (items_of rows)) 0 ≡ true = ap (λ n. eqb n 0) (same rows 0 0 0) ∙ sym c.if-is_empty.ensures in
     sym (rw (o, e))
 
-pub returns-else-is-empty : goal.returns-else-is-empty
-returns-else-is-empty c =
+pub returns-else-is_empty : goal.returns-else-is_empty
+returns-else-is_empty c =
     let rows = c.args.rows.now in
     let l = c.if-room-heights.false in
     let o = within rows c.args.heights c.args.depth c.args.room l.0 l.1 l.2 in
-    let e : eqb (length (items_of rows)) 0 ≡ false = ap (λ n. eqb n 0) (same rows 0 0 0) ∙ sym c.if-is-empty.ensures in
-    c.content-refusal.ensures ∙ sym (rw (o, e))
+    let e : eqb (length (items_of rows)) 0 ≡ false = ap (λ n. eqb n 0) (same rows 0 0 0) ∙ sym c.if-is_empty.ensures in
+    c.content_refusal.ensures ∙ sym (rw (o, e))

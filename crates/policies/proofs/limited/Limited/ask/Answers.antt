@@ -4,4 +4,4 @@ use Rattle.policies.specs.Policies.{asks}
 use Rattle.policies.proofs.limited.Limited.ask.Goals as goal
 
 pub returns : goal.returns
-returns g c = record { counts-kept = (refl, refl); nothing_lost = search rules; by-its-rule = search rules; asks = λ l m given below ruled bound count. asks below ruled bound count }
+returns g c = record { counts_kept = (refl, refl); nothing_lost = search rules; by_its_rule = search rules; asks = λ l m given below ruled bound count. asks below ruled bound count }

@@ -7,9 +7,9 @@ use Rattle.policies.proofs.limited.Limited.release_below.Goals as goal
 pub returns : goal.returns
 returns g c =
     record {
-      counts-kept = (refl, refl);
-      all-that-was-held = search rules;
-      holds-nothing = search rules;
+      counts_kept = (refl, refl);
+      all_that_was_held = search rules;
+      holds_nothing = search rules;
       acts =
           λ l m given v count shipped held classes none bound zero.
           acts count (shipped ∙ sym (length-append (g.P.Policy.held l.below) given.body)) held classes none bound zero;

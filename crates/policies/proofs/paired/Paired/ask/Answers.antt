@@ -16,11 +16,11 @@ returns g c =
     let s = c.judge.ensures.nothing_lost in
     let below = g.P.Policy.held p.below in
     record {
-      column-kept = (refl, refl);
-      by-its-rule = search rules;
+      column_kept = (refl, refl);
+      by_its_rule = search rules;
       within = omega (arith, c.requires, s.within, length-append below c.args.body.now, held_length g.P.Policy.held g.P.Policy.rule p);
       column_aside = column_aside below c.args.body.now _ w _ s refl refl;
-      column-first = column_before (column_of g.P.Policy.held g.P.Policy.rule p) below c.args.body.now _ w _ s (ap (λ k. k + w.shipped) (sym (column_length g.P.Policy.held g.P.Policy.rule p))) refl;
-      sets-aside = λ p q given v ruled empty some few column shipped held classes. sets_aside w ruled empty some few column shipped held classes;
+      column_first = column_before (column_of g.P.Policy.held g.P.Policy.rule p) below c.args.body.now _ w _ s (ap (λ k. k + w.shipped) (sym (column_length g.P.Policy.held g.P.Policy.rule p))) refl;
+      sets_aside = λ p q given v ruled empty some few column shipped held classes. sets_aside w ruled empty some few column shipped held classes;
       ships = λ p q given v ruled way column shipped held classes. ships w ruled way column shipped held classes;
     }

@@ -5,14 +5,14 @@ use Rattle.policies.proofs.Splitting.{same_front}
 use Rattle.policies.proofs.Columns.{held_length}
 use Rattle.policies.proofs.paired.Paired.front.Goals as goal
 
-pub held-count-requires : goal.held-count-requires
-held-count-requires g c = omega (arith, c.requires, held_length g.P.Policy.held g.P.Policy.rule c.args.self.now)
+pub held_count-requires : goal.held_count-requires
+held_count-requires g c = omega (arith, c.requires, held_length g.P.Policy.held g.P.Policy.rule c.args.self.now)
 
-pub overflow-add-count : goal.overflow-add-count
-overflow-add-count g c = omega (arith, c.requires, held_length g.P.Policy.held g.P.Policy.rule c.args.self.now)
+pub overflow_add-count : goal.overflow_add-count
+overflow_add-count g c = omega (arith, c.requires, held_length g.P.Policy.held g.P.Policy.rule c.args.self.now)
 
-pub item-at-requires : goal.item-at-requires
-item-at-requires g c =
+pub item_at-requires : goal.item_at-requires
+item_at-requires g c =
     let n = held_length g.P.Policy.held g.P.Policy.rule c.args.self.now in
     record { few = omega arith; within = omega arith }
 

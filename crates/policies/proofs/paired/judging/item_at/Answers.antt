@@ -5,8 +5,8 @@ use Rattle.policies.proofs.paired.judging.item_at.Goals as goal
 
 pub returns-then-k-held : goal.returns-then-k-held
 returns-then-k-held g c =
-    c.held-at.ensures ∙ sym (get_or_append_left (g.P.Policy.held c.args.below.now) c.args.body.now 0 c.args.k (omega arith))
+    c.held_at.ensures ∙ sym (get_or_append_left (g.P.Policy.held c.args.below.now) c.args.body.now 0 c.args.k (omega arith))
 
 pub returns-else-k-held : goal.returns-else-k-held
 returns-else-k-held g c =
-    sym (get_or-append_right (g.P.Policy.held c.args.below.now) c.args.body.now c.held-count-held.result c.args.k 0 (sym c.held-count-held.ensures) (omega arith))
+    sym (get_or-append_right (g.P.Policy.held c.args.below.now) c.args.body.now c.held_count-held.result c.args.k 0 (sym c.held_count-held.ensures) (omega arith))

@@ -212,7 +212,7 @@ module _ (g : Ground) (h : Grounded g) where
 
 module _ (g : Ground) (rows : List Row) (page : List ℕ) (m : PageSoFar) (h : Standing g rows page m) where
   standing_small : After (length page) m
-  standing_small = subst (After (length page)) (sym h.is) (page_small g h.ground rows h.table h.short page h.numbers)
+  standing_small = subst (After (length page)) (sym h.is) (page_small g h.basis rows h.table h.short page h.numbers)
 
   -- the numbers of a page fit its goal
   pub standing_fits : (nat_abs m.goal < 2 ^ 62) × (nat_abs m.sums.total < 2 ^ 62)
@@ -230,6 +230,6 @@ module _ (g : Ground) (rows : List Row) (page : List ℕ) (m : PageSoFar) (h : S
         total = omega (arith, s.sums.total);
         roomy = bounded_roomy (2 * n) m.sums (omega arith) s.sums;
         within = h.table.values x f;
-        arrived = λ c k e. small_low g h.ground n (n * 2 ^ 47 + 2 ^ 30) c m few (omega arith) (h.table.classes x c k f e) s;
-        begun = λ c k e. small_low g h.ground n (n * 2 ^ 47 + 2 ^ 30 + 2 ^ 45 + 2 ^ 30) c (begin g m c) few (omega arith) (h.table.classes x c k f e) (begin_small g h.ground n _ m s c);
+        arrived = λ c k e. small_low g h.basis n (n * 2 ^ 47 + 2 ^ 30) c m few (omega arith) (h.table.classes x c k f e) s;
+        begun = λ c k e. small_low g h.basis n (n * 2 ^ 47 + 2 ^ 30 + 2 ^ 45 + 2 ^ 30) c (begin g m c) few (omega arith) (h.table.classes x c k f e) (begin_small g h.basis n _ m s c);
       }

@@ -21,7 +21,7 @@ pub record Inside (rows : List Row) (x : ℕ) : Type 0 where
 
 -- m is what a page of a well formed table gives
 pub record Standing (g : Ground) (rows : List Row) (page : List ℕ) (m : PageSoFar) : Type 0 where
-  pub ground : Grounded g
+  pub basis : Grounded g
   pub table : WellFormed rows
   pub short : length rows ≤ 16384
   pub numbers : All (Inside rows) page

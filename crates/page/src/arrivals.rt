@@ -73,14 +73,14 @@ impl Taken {
 
 impl ClassSoFar {
     // A class before its first note.
-    fn first(ground: &Ground, class: usize) -> ClassSoFar
+    fn first(basis: &Ground, class: usize) -> ClassSoFar
         requires { class < 8 }
-        ensures { result ≡ shelf_of ground.now class }
+        ensures { result ≡ shelf_of basis.now class }
     {
         ClassSoFar {
             begun: true,
             split: false,
-            height: ground.shelved[class],
+            height: basis.shelved[class],
             last: 0,
             before: 0,
         }
@@ -122,40 +122,40 @@ impl ClassSoFar {
 
 impl PageSoFar {
     // What lies on a class's shelf, and the skip, go off the goal.
-    fn reserve(&mut self, ground: &Ground, class: usize)
+    fn reserve(&mut self, basis: &Ground, class: usize)
         requires class { class < 8 }
-        requires shelved { unsigned_abs (shelf_size ground.now class) < 2 ^ 46 }
+        requires shelved { unsigned_abs (shelf_size basis.now class) < 2 ^ 46 }
         requires goal { unsigned_abs self.old.goal < 2 ^ 62 }
-        ensures { self.new ≡ lowered self.old (shelf_size ground.now class +ℤ pos (rules_of ground.now class).skip) }
+        ensures { self.new ≡ lowered self.old (shelf_size basis.now class +ℤ pos (rules_of basis.now class).skip) }
     {
-        self.goal -= ground.shelved[class] + ground.classes[class].skip as i64;
+        self.goal -= basis.shelved[class] + basis.classes[class].skip as i64;
     }
 
     // The first note of a class arrives.
-    fn begins(&mut self, ground: &Ground, class: usize)
-        requires { Low ground.now self.old class }
-        ensures { self.new ≡ begins ground.now self.old class }
+    fn begins(&mut self, basis: &Ground, class: usize)
+        requires { Low basis.now self.old class }
+        ensures { self.new ≡ begins basis.now self.old class }
     {
-        self.reserve(ground, class);
-        self.classes[class] = ClassSoFar::first(ground, class);
+        self.reserve(basis, class);
+        self.classes[class] = ClassSoFar::first(basis, class);
     }
 
     // Makes room for a class, where the note that arrives is its first.
-    pub(crate) fn begin(&mut self, ground: &Ground, class: usize)
-        requires { Low ground.now self.old class }
-        ensures { self.new ≡ begin ground.now self.old class }
+    pub(crate) fn begin(&mut self, basis: &Ground, class: usize)
+        requires { Low basis.now self.old class }
+        ensures { self.new ≡ begin basis.now self.old class }
     {
         if !self.classes[class].begun {
-            self.begins(ground, class);
+            self.begins(basis, class);
         }
     }
 
     // A note of a split class only costs.
-    fn floats(&mut self, ground: &Ground, class: usize)
-        requires { Low ground.now self.old class }
-        ensures { self.new ≡ floats ground.now self.old class }
+    fn floats(&mut self, basis: &Ground, class: usize)
+        requires { Low basis.now self.old class }
+        ensures { self.new ≡ floats basis.now self.old class }
     {
-        self.notes += ground.classes[class].floating as i32;
+        self.notes += basis.classes[class].floating as i32;
     }
 
     fn lower(&mut self, taken: Taken)
@@ -210,13 +210,13 @@ impl PageSoFar {
     }
 
     // What a part of a note is to fill.
-    fn column(&self, ground: &Ground, class: usize) -> Column
-        requires { Low ground.now self.now class }
-        ensures height { result.height ≡ wanted ground.now self.now class }
-        ensures depth { result.depth ≡ (rules_of ground.now class).depth }
+    fn column(&self, basis: &Ground, class: usize) -> Column
+        requires { Low basis.now self.now class }
+        ensures height { result.height ≡ wanted basis.now self.now class }
+        ensures depth { result.depth ≡ (rules_of basis.now class).depth }
         ensures bound { unsigned_abs result.height < 2 ^ 62 }
     {
-        let rules = ground.classes[class];
+        let rules = basis.classes[class];
         Column {
             height: self.room().min(self.classes[class].room(rules)),
             depth: rules.depth,
@@ -224,35 +224,35 @@ impl PageSoFar {
     }
 
     // Where a note breaks that does not stay whole.
-    fn break_for(&self, ground: &Ground, class: usize, content: &[Row]) -> NoteBreak
-        requires low { Low ground.now self.now class }
+    fn break_for(&self, basis: &Ground, class: usize, content: &[Row]) -> NoteBreak
+        requires low { Low basis.now self.now class }
         requires within { Within (items_of content.now) }
         requires short { length content.now ≤ 16384 }
-        ensures best { Some result ≡ break_for ground.now self.now class (items_of content.now) }
+        ensures best { Some result ≡ break_for basis.now self.now class (items_of content.now) }
         ensures height { unsigned_abs result.height < 2 ^ 47 }
         ensures penalty { unsigned_abs result.penalty ≤ 10000 }
     {
-        break_note(content, self.column(ground, class))
+        break_note(content, self.column(basis, class))
     }
 
     // A note arrives, its class begun: it floats where its class is split, stays whole where there is room, and
     // is broken otherwise.
-    pub(crate) fn arrive(&mut self, ground: &Ground, class: usize, x: u32, content: &[Row])
-        requires low { Low ground.now self.old class }
+    pub(crate) fn arrive(&mut self, basis: &Ground, class: usize, x: u32, content: &[Row])
+        requires low { Low basis.now self.old class }
         requires within { Within (items_of content.now) }
         requires short { length content.now ≤ 16384 }
-        ensures { self.new ≡ with_note ground.now self.old x class (items_of content.now) }
+        ensures { self.new ≡ with_note basis.now self.old x class (items_of content.now) }
     {
         let so_far = self.classes[class];
         if so_far.split {
-            self.floats(ground, class);
+            self.floats(basis, class);
             return;
         }
         let whole = Taken::whole(content);
-        if self.fits_page(whole) && so_far.fits(ground.classes[class], whole) {
+        if self.fits_page(whole) && so_far.fits(basis.classes[class], whole) {
             self.takes(class, x, whole);
         } else {
-            let cut = self.break_for(ground, class, content);
+            let cut = self.break_for(basis, class, content);
             self.takes(class, x, Taken::part(cut));
         }
     }

@@ -153,7 +153,7 @@ impl PageSoFar {
 
     // Looks at the place between the page and what follows it.
     pub fn look(&self, page: &[u32], rows: &[Row], ahead: Ahead, best: Option<PageBreak>) -> Looked
-        requires { (ground : Ground) × Standing ground rows.now page.now self.now }
+        requires { (basis : Ground) × Standing basis rows.now page.now self.now }
         ensures best { result.best ≡ best_with self.now (length page.now) best (penalty_here self.now rows.now page.now ahead) }
         ensures fires { result.fires ≡ fires_with self.now (length page.now) (penalty_here self.now rows.now page.now ahead) }
     {

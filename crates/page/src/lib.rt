@@ -58,8 +58,8 @@ pub struct Taken {
 
 impl PageSoFar {
     // A fresh page: what an empty list gives.
-    pub fn new(ground: &Ground) -> PageSoFar
-        ensures { result ≡ fresh ground.now }
+    pub fn new(basis: &Ground) -> PageSoFar
+        ensures { result ≡ fresh basis.now }
     {
         let untouched = ClassSoFar {
             begun: false,
@@ -69,7 +69,7 @@ impl PageSoFar {
             before: 0,
         };
         PageSoFar {
-            goal: ground.settings.size as i64,
+            goal: basis.settings.size as i64,
             sums: Sums::new(),
             notes: 0,
             boxes: false,
@@ -107,30 +107,30 @@ impl PageSoFar {
     }
 
     // The item of a number joins the page, where the numbers are low.
-    fn put(&mut self, ground: &Ground, rows: &[Row], x: u32)
+    fn put(&mut self, basis: &Ground, rows: &[Row], x: u32)
         requires table { WellFormed rows.now }
         requires short { length rows.now ≤ 16384 }
         requires arriving { Arriving rows.now x }
-        requires ready { Ready ground.now rows.now self.old x }
-        ensures { self.new ≡ next ground.now rows.now self.old x }
+        requires ready { Ready basis.now rows.now self.old x }
+        ensures { self.new ≡ next basis.now rows.now self.old x }
     {
         let item = rows[x as usize - 1].item;
         match item {
-            Item::Box { height, depth } => self.add_box(ground.settings, height, depth),
+            Item::Box { height, depth } => self.add_box(basis.settings, height, depth),
             Item::Note { class, .. } => {
-                self.begin(ground, class as usize);
-                self.arrive(ground, class as usize, x, left(rows, x));
+                self.begin(basis, class as usize);
+                self.arrive(basis, class as usize, x, left(rows, x));
             }
-            _ => self.add_text(ground.settings, item),
+            _ => self.add_text(basis.settings, item),
         }
     }
 
     // The item or note of a number joins the page: what a list gives becomes what the list with it gives.
-    pub fn add(&mut self, ground: &Ground, rows: &[Row], x: u32)
-        requires standing { (page : List ℕ) × Standing ground.now rows.now page self.old }
+    pub fn add(&mut self, basis: &Ground, rows: &[Row], x: u32)
+        requires standing { (page : List ℕ) × Standing basis.now rows.now page self.old }
         requires arriving { Arriving rows.now x }
-        ensures { (page : List ℕ) → self.old ≡ so_far ground.now rows.now page → self.new ≡ so_far ground.now rows.now (page ++ x ∷ []) }
+        ensures { (page : List ℕ) → self.old ≡ so_far basis.now rows.now page → self.new ≡ so_far basis.now rows.now (page ++ x ∷ []) }
     {
-        self.put(ground, rows, x);
+        self.put(basis, rows, x);
     }
 }

@@ -13,7 +13,7 @@ use Rattle.page_tests.proofs.Formed.{galley_formed, galley_arriving}
 
 module _ (g : Ground) (h : Grounded g) (m : PageSoFar) where
   pub standing : (page : List ℕ) → length page ≤ 8 → All (Inside galley) page → m ≡ so_far g galley page → Standing g galley page m
-  standing page l i e = record { ground = h; table = galley_formed; short = omega arith; numbers = i; few = omega arith; is = e }
+  standing page l i e = record { basis = h; table = galley_formed; short = omega arith; numbers = i; few = omega arith; is = e }
 
   module _ (numbers : List ℕ) (k : ℕ) (few : length numbers ≤ 8) (rows : List Row) (is : rows ≡ galley) where
     pub so_far_lem : k ≤ length numbers → All (Inside galley) (take k numbers) → m ≡ so_far g galley (take k numbers) → Standing g rows (take k numbers) m

@@ -22,7 +22,7 @@ fn penalty(value: i32) -> Item {
 
 // Whether the place after a page is a candidate, and then what it costs; 0 where it is none.
 fn cost_of(rt: &impl Abort, numbers: &[u32], ahead: Ahead) -> Result<i64, Fail> {
-    match look(rt, &ground(100, 0), numbers, ahead, None)?.best {
+    match look(rt, &basis(100, 0), numbers, ahead, None)?.best {
         Some(best) => Ok(best.cost),
         None => Ok(0),
     }
@@ -33,7 +33,7 @@ fn cost_of(rt: &impl Abort, numbers: &[u32], ahead: Ahead) -> Result<i64, Fail> 
 fn glue_after_a_note(rt: HostRuntime) -> Result<(), Fail> {
     let looked = look(
         &rt,
-        &ground(100, 0),
+        &basis(100, 0),
         &[1, 2],
         ahead(Some(glue()), None),
         None,
@@ -86,7 +86,7 @@ fn kerns_and_penalties(rt: HostRuntime) -> Result<(), Fail> {
 fn what_fires(rt: HostRuntime) -> Result<(), Fail> {
     let ordered = look(
         &rt,
-        &ground(100, 0),
+        &basis(100, 0),
         &[1],
         ahead(Some(penalty(-10_000)), None),
         None,
@@ -97,19 +97,19 @@ fn what_fires(rt: HostRuntime) -> Result<(), Fail> {
         after: None,
         closed: true,
     };
-    assert!(rt; look(&rt, &ground(100, 0), &[1], end, None)?.fires);
-    assert!(rt; !look(&rt, &ground(100, 0), &[], end, None)?.fires);
-    assert!(rt; !look(&rt, &ground(100, 0), &[1], ahead(None, None), None)?.fires);
+    assert!(rt; look(&rt, &basis(100, 0), &[1], end, None)?.fires);
+    assert!(rt; !look(&rt, &basis(100, 0), &[], end, None)?.fires);
+    assert!(rt; !look(&rt, &basis(100, 0), &[1], ahead(None, None), None)?.fires);
     Ok(())
 }
 
 // Both places cost 100,000: the later one is the best.
 #[test]
 fn the_last_of_equal_costs(rt: HostRuntime) -> Result<(), Fail> {
-    let first = look(&rt, &ground(100, 0), &[1], ahead(Some(glue()), None), None)?;
+    let first = look(&rt, &basis(100, 0), &[1], ahead(Some(glue()), None), None)?;
     let second = look(
         &rt,
-        &ground(100, 0),
+        &basis(100, 0),
         &[1, 2],
         ahead(Some(glue()), None),
         first.best,

@@ -53,7 +53,7 @@ pub(crate) fn galley() -> [Row; 14]
 
 // Pages of a size, on a shelf of class 0 with something on it. Class 0 has limit 60 and skip 5, class 1 limit 20, skip 3 and
 // floating cost 30.
-pub(crate) fn ground(size: u32, shelved: i64) -> Ground
+pub(crate) fn basis(size: u32, shelved: i64) -> Ground
     requires first { 1 ≤ size }
     requires last { size ≤ most }
     requires shelved { unsigned_abs shelved ≤ 2 ^ 45 }
@@ -93,17 +93,17 @@ pub(crate) fn ground(size: u32, shelved: i64) -> Ground
 }
 
 // The page of some numbers of the galley.
-pub(crate) fn page_of(rt: &impl Abort, ground: &Ground, numbers: &[u32]) -> Result<PageSoFar, Fail>
-    requires { Grounded ground.now }
-    ensures { IfOk result (λ m. Standing ground.now galley numbers.now m) }
+pub(crate) fn page_of(rt: &impl Abort, basis: &Ground, numbers: &[u32]) -> Result<PageSoFar, Fail>
+    requires { Grounded basis.now }
+    ensures { IfOk result (λ m. Standing basis.now galley numbers.now m) }
 {
     assert!(rt; numbers.len() <= 8);
     let rows = galley();
-    let mut page = PageSoFar::new(ground);
+    let mut page = PageSoFar::new(basis);
     for x in numbers {
         assert!(rt; 1 <= *x);
         assert!(rt; *x <= 14);
-        page.add(ground, &rows, *x);
+        page.add(basis, &rows, *x);
     }
     Ok(page)
 }
@@ -111,13 +111,13 @@ pub(crate) fn page_of(rt: &impl Abort, ground: &Ground, numbers: &[u32]) -> Resu
 // A look after the page of some numbers.
 pub(crate) fn look(
     rt: &impl Abort,
-    ground: &Ground,
+    basis: &Ground,
     numbers: &[u32],
     ahead: Ahead,
     best: Option<PageBreak>,
 ) -> Result<Looked, Fail>
-    requires { Grounded ground.now }
+    requires { Grounded basis.now }
 {
-    let page = page_of(rt, ground, numbers)?;
+    let page = page_of(rt, basis, numbers)?;
     Ok(page.look(numbers, &galley(), ahead, best))
 }

@@ -10,8 +10,8 @@ put-requires c =
       table = h.table;
       short = h.short;
       arriving = c.requires.arriving;
-      ready = standing_ready c.args.ground.now c.args.rows.now c.requires.standing.0 c.args.self.now h c.args.x c.requires.arriving.inside.first;
+      ready = standing_ready c.args.basis.now c.args.rows.now c.requires.standing.0 c.args.self.now h c.args.x c.requires.arriving.inside.first;
     }
 
 pub returns : goal.returns
-returns c = λ page e. so_far_next c.args.ground.now c.args.rows.now page c.args.x c.args.self.now c.put.new.self c.put.ensures e
+returns c = λ page e. so_far_next c.args.basis.now c.args.rows.now page c.args.x c.args.self.now c.put.new.self c.put.ensures e

@@ -10,10 +10,10 @@ use Rattle.page.proofs.PageSoFar.break_for.Goals as goal
 pub returns : goal.returns
 returns c =
     let items = items_of c.args.content.now in
-    let found = c.break-note.ensures.best in
-    let modest = break_modest items c.column.result.height c.column.result.depth c.break-note.result c.requires.within (simp length-map c.requires.short) found in
+    let found = c.break_note.ensures.best in
+    let modest = break_modest items c.column.result.height c.column.result.depth c.break_note.result c.requires.within (simp length-map c.requires.short) found in
     record {
-      best = found ∙ ap (λ w. break_of items w c.column.result.depth) c.column.ensures.height ∙ ap (break_of items (wanted c.args.ground.now c.args.self.now c.args.class)) c.column.ensures.depth;
+      best = found ∙ ap (λ w. break_of items w c.column.result.depth) c.column.ensures.height ∙ ap (break_of items (wanted c.args.basis.now c.args.self.now c.args.class)) c.column.ensures.depth;
       height = omega (arith, modest.height);
       penalty = modest.penalty;
     }

@@ -13,7 +13,7 @@ pub returns : goal.returns
 returns c =
     record {
       height =
-          smaller c.min.result c.room.result c.room-2.result (record { sfits = c.min.type-inv }) (record { sfits = c.room.type-inv }) (record { sfits = c.room-2.type-inv }) c.min.ensures.value ∙
+          smaller c.min.result c.room.result c.room-2.result (record { sfits = c.min.type_inv }) (record { sfits = c.room.type_inv }) (record { sfits = c.room-2.type_inv }) c.min.ensures.value ∙
           ap (λ a. int_min a c.room-2.result) c.room.ensures.room ∙ ap (int_min (room_on c.args.self.now)) c.room-2.ensures.room;
       depth = refl;
       bound = omega (arith, ints, clamps);

@@ -12,5 +12,5 @@ pub least-requires : goal.least-requires
 least-requires c =
     let m = c.args.self.now in
     let f = c.ranges.penalty in
-    let here : c.break-here-here.result ≡ break_here m c.args.place c.args.penalty = simp to_z-of_z at c.break-here-here.ensures in
+    let here : c.break_here-here.result ≡ break_here m c.args.place c.args.penalty = simp to_z-of_z at c.break_here-here.ensures in
     subst (λ (b : PageBreak). b.cost ≤ℤ pos most) (sym here) (cost_most (fit_of m.goal m.sums) c.args.penalty m.notes c.requires.allowed)

@@ -12,8 +12,8 @@ use Rattle.page.proofs.arrivals.left.Goals as goal
 short_rows : (rows : List Row) (items : List Item) → items_of rows ≡ items → length items ≤ 16384 → length rows ≤ 16384
 short_rows rows items e l = omega (arith, length-map rows (λ (r : Row). r.item), ap length e)
 
-pub slice-bounds-result-end : goal.slice-bounds-result-end
-slice-bounds-result-end c = (c.requires.table.content c.args.x c.in-Note.class c.in-Note.count c.requires.arriving.inside.first c.in-Note.is).within
+pub slice_bounds-result-end : goal.slice_bounds-result-end
+slice_bounds-result-end c = (c.requires.table.content c.args.x c.in-Note.class c.in-Note.count c.requires.arriving.inside.first c.in-Note.is).within
 
 pub returns-in-Note : goal.returns-in-Note
 returns-in-Note c =

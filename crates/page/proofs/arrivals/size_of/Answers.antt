@@ -8,8 +8,8 @@ use Rattle.page.specs.PageSoFar.{sizes}
 use Rattle.page.proofs.Sizes.{size_small, front_small, front_more}
 use Rattle.page.proofs.arrivals.size_of.Goals as goal
 
-pub overflow-add-size : goal.overflow-add-size
-overflow-add-size c =
+pub overflow_add-size : goal.overflow_add-size
+overflow_add-size c =
     let rows = c.args.content.now in
     let k = c.loop-row.row-index in
     let here = size_small (get_or rows k blank).item (row_within rows k blank c.loop-row-test.true c.requires.within) in

@@ -10,7 +10,7 @@ use Rattle.page_tests.proofs.tables.page_of.Goals as goal
 
 pub add-requires : goal.add-requires
 add-requires c =
-    let g = c.args.ground.now in
+    let g = c.args.basis.now in
     let numbers = c.args.numbers.now in
     let k = c.loop-x.x-index in
     let few : length numbers ≤ 8 = search rules in
@@ -22,7 +22,7 @@ add-requires c =
 
 pub loop-x-preserved : goal.loop-x-preserved
 loop-x-preserved c =
-    let g = c.args.ground.now in
+    let g = c.args.basis.now in
     let numbers = c.args.numbers.now in
     let k = c.loop-x.x-index in
     let few : length numbers ≤ 8 = search rules in
@@ -31,7 +31,7 @@ loop-x-preserved c =
 
 pub returns : goal.returns
 returns c =
-    let g = c.args.ground.now in
+    let g = c.args.basis.now in
     let numbers = c.args.numbers.now in
     let few : length numbers ≤ 8 = search rules in
     let all = take_all c.loop-x.x-index numbers c.loop-x-test.false in

@@ -6,4 +6,4 @@ use Rattle.page_tests.specs.Galley.{galley}
 use Rattle.page_tests.proofs.tables.page_of.Given as goal
 
 abbrev pub invariant-loop-x : goal.invariant-loop-x
-invariant-loop-x l = (l.page ≡ so_far l.ground galley (take l.x-index l.numbers)) × All (Inside galley) (take l.x-index l.numbers)
+invariant-loop-x l = (l.page ≡ so_far l.basis galley (take l.x-index l.numbers)) × All (Inside galley) (take l.x-index l.numbers)

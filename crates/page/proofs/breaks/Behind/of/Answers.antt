@@ -13,23 +13,23 @@ use Rattle.page.proofs.breaks.Behind.of.Goals as goal
 some : (page : List ℕ) → false ≡ eqb (length page) 0 → 0 < length page
 some page e = grind (arith, nat_tests)
 
-pub returns-then-is-empty : goal.returns-then-is-empty
-returns-then-is-empty c =
+pub returns-then-is_empty : goal.returns-then-is_empty
+returns-then-is_empty c =
     let rows = c.args.rows.now in
-    let none = sym (nil_from_length c.args.page.now (eqb-true _ _ (sym c.if-is-empty.ensures))) in
+    let none = sym (nil_from_length c.args.page.now (eqb-true _ _ (sym c.if-is_empty.ensures))) in
     record { vacant = ap (λ page. empty (items_at rows page)) none; solid = ap (λ page. last_is (λ y. is_box y || is_note y) (items_at rows page)) none }
 
-pub overflow-sub-last-2 : goal.overflow-sub-last-2
-overflow-sub-last-2 c = (last_inside c.args.rows.now c.args.page.now (some c.args.page.now c.if-is-empty.ensures) c.requires.numbers).first
+pub overflow_sub-last-2 : goal.overflow_sub-last-2
+overflow_sub-last-2 c = (last_inside c.args.rows.now c.args.page.now (some c.args.page.now c.if-is_empty.ensures) c.requires.numbers).first
 
 pub bounds-rows-page : goal.bounds-rows-page
 bounds-rows-page c =
-    let h = last_inside c.args.rows.now c.args.page.now (some c.args.page.now c.if-is-empty.ensures) c.requires.numbers in
+    let h = last_inside c.args.rows.now c.args.page.now (some c.args.page.now c.if-is_empty.ensures) c.requires.numbers in
     omega arith
 
 pub returns : goal.returns
 returns c =
     let rows = c.args.rows.now in
     let page = c.args.page.now in
-    let l = some page c.if-is-empty.ensures in
-    record { vacant = sym (not_empty rows page l); solid = c.is-solid.ensures ∙ sym (last_item rows page l (λ y. is_box y || is_note y)) }
+    let l = some page c.if-is_empty.ensures in
+    record { vacant = sym (not_empty rows page l); solid = c.is_solid.ensures ∙ sym (last_item rows page l (λ y. is_box y || is_note y)) }

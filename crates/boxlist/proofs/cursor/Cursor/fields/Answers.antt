@@ -9,12 +9,12 @@ pub loop-i-init : goal.loop-i-init
 loop-i-init g c = none g.row.N c.args.self.now _ (length-replicate g.row.N 0)
 
 pub loop-i-preserved : goal.loop-i-preserved
-loop-i-preserved g c = another c.field.new.self c.loop-i.invariant c.loop-i-test.true _ c.in-ok-numbers.ensures
+loop-i-preserved g c = another c.field.new.self c.loop-i.invariant c.loop-i-test.true _ c.in_ok-numbers.ensures
 
-pub returns-in-err-numbers : goal.returns-in-err-numbers
-returns-in-err-numbers g c =
-    subst (Exactly fields _ c.args.self.now c.field.new.self) (sym c.from-residual.ensures)
-    (fails c.field.new.self c.loop-i.invariant c.loop-i-test.true c.in-err-numbers.ensures)
+pub returns-in_err-numbers : goal.returns-in_err-numbers
+returns-in_err-numbers g c =
+    subst (Exactly fields _ c.args.self.now c.field.new.self) (sym c.from_residual.ensures)
+    (fails c.field.new.self c.loop-i.invariant c.loop-i-test.true c.in_err-numbers.ensures)
 
 pub returns : goal.returns
 returns g c =

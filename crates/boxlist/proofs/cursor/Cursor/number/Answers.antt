@@ -9,32 +9,32 @@ pub loop-digit-init : goal.loop-digit-init
 loop-digit-init c = (start c.args.self.now, omega arith)
 
 pub loop-digit-preserved : goal.loop-digit-preserved
-loop-digit-preserved c = (more _ _ c.from.ensures c.loop-digit.invariant.0 c.in-Some.ensures, c.if-not-is-small.ensures.0 refl)
+loop-digit-preserved c = (more _ _ c.from.ensures c.loop-digit.invariant.0 c.in-Some.ensures, c.if-not-is_small.ensures.0 refl)
 
 pub loop-digit-smaller : goal.loop-digit-smaller
 loop-digit-smaller c =
     let p = c.in-Some.ensures.1 in
     omega (arith, within _ c.loop-digit.self c.digit.new.self p (λ e. omega (arith, p.far)))
 
-pub returns-then-not-is-small : goal.returns-then-not-is-small
-returns-then-not-is-small c = above (more _ _ c.from.ensures c.loop-digit.invariant.0 c.in-Some.ensures) (λ h. false≢true (c.if-not-is-small.ensures.1 h))
+pub returns-then-not-is_small : goal.returns-then-not-is_small
+returns-then-not-is_small c = above (more _ _ c.from.ensures c.loop-digit.invariant.0 c.in-Some.ensures) (λ h. false≢true (c.if-not-is_small.ensures.1 h))
 
 pub returns-then-self-start : goal.returns-then-self-start
 returns-then-self-start c =
-    let h = at_end_lem c.loop-digit.invariant.0 c.in-default.ensures in
+    let h = at_end_lem c.loop-digit.invariant.0 c.in_default.ensures in
     empty h.0 h.1 c.if-self-start.true
 
-pub slice-bounds-has-leading-zero-end : goal.slice-bounds-has-leading-zero-end
-slice-bounds-has-leading-zero-end c =
-    let h = at_end_lem c.loop-digit.invariant.0 c.in-default.ensures in
+pub slice_bounds-has_leading_zero-end : goal.slice_bounds-has_leading_zero-end
+slice_bounds-has_leading_zero-end c =
+    let h = at_end_lem c.loop-digit.invariant.0 c.in_default.ensures in
     omega (arith, within _ c.args.self.now c.digit.new.self h.0.passed c.if-self-start.false)
 
-pub returns-then-has-leading-zero : goal.returns-then-has-leading-zero
-returns-then-has-leading-zero c =
-    let h = at_end_lem c.loop-digit.invariant.0 c.in-default.ensures in
-    zero_first h.0 h.1 (c.if-has-leading-zero.ensures.0 refl)
+pub returns-then-has_leading_zero : goal.returns-then-has_leading_zero
+returns-then-has_leading_zero c =
+    let h = at_end_lem c.loop-digit.invariant.0 c.in_default.ensures in
+    zero_first h.0 h.1 (c.if-has_leading_zero.ensures.0 refl)
 
 pub returns : goal.returns
 returns c =
-    let h = at_end_lem c.loop-digit.invariant.0 c.in-default.ensures in
-    number_is h.0 h.1 c.loop-digit.invariant.1 c.if-self-start.false (λ z. false≢true (c.if-has-leading-zero.ensures.1 z))
+    let h = at_end_lem c.loop-digit.invariant.0 c.in_default.ensures in
+    number_is h.0 h.1 c.loop-digit.invariant.1 c.if-self-start.false (λ z. false≢true (c.if-has_leading_zero.ensures.1 z))

@@ -28,9 +28,9 @@ returns-then-ended c =
       text = refl;
     }
 
-pub returns-in-default : goal.returns-in-default
-returns-in-default c =
-    let missing = no_body (at c.args.self.now) c.body.new.self c.in-default.ensures in
+pub returns-in_default : goal.returns-in_default
+returns-in_default c =
+    let missing = no_body (at c.args.self.now) c.body.new.self c.in_default.ensures in
     record {
       answers = (some c.args.self.now (λ h. false≢true (c.if-ended.ensures.1 h)), missing);
       only = λ q fits e. absurd (missing q fits e);

@@ -69,10 +69,11 @@ fn check_refusal(
     heights: &[i32],
     depth: u32,
     want: (u32, usize),
+    what: &str,
 ) -> Result<(), Fail> {
     let refusal = refusal(rt, items, heights, depth)?;
-    assert_eq!(rt; refusal.cause.number(), want.0);
-    assert_eq!(rt; refusal.offset, want.1);
+    assert_eq!(rt; refusal.cause.number(), want.0, "{what}");
+    assert_eq!(rt; refusal.offset, want.1, "{what}");
     Ok(())
 }
 
@@ -80,9 +81,37 @@ fn check_refusal(
 fn refusals(rt: HostRuntime) -> Result<(), Fail> {
     let note = Item::Note { class: 0, count: 1 };
     let outside = bx(1_073_741_824, 0);
-    check_refusal(&rt, &[], &[10], 0, (3, 0))?;
-    check_refusal(&rt, &[bx(1, 0)], &[10, 10, 10], 0, (1, 0)).note("three heights and two places")?;
-    check_refusal(&rt, &[bx(1, 0)], &[10], 1_073_741_824, (1, 0))?;
-    check_refusal(&rt, &[outside, bx(1, 0), note], &[10], 0, (5, 3)).note("a note before a value")?;
-    check_refusal(&rt, &[bx(1, 0), outside, outside], &[10], 0, (6, 2))
+    check_refusal(&rt, &[], &[10], 0, (3, 0), "no content")?;
+    check_refusal(
+        &rt,
+        &[bx(1, 0)],
+        &[10, 10, 10],
+        0,
+        (1, 0),
+        "three heights and two places",
+    )?;
+    check_refusal(
+        &rt,
+        &[bx(1, 0)],
+        &[10],
+        1_073_741_824,
+        (1, 0),
+        "a depth too large",
+    )?;
+    check_refusal(
+        &rt,
+        &[outside, bx(1, 0), note],
+        &[10],
+        0,
+        (5, 3),
+        "a note before a value",
+    )?;
+    check_refusal(
+        &rt,
+        &[bx(1, 0), outside, outside],
+        &[10],
+        0,
+        (6, 2),
+        "a value outside its limits",
+    )
 }

@@ -10,9 +10,9 @@ returns c =
     let fit = sym c.if-not-fit.ensures.within in
     record {
       made = (
-        accepted (length t.rows) (lengths_of t) c.args.settings c.args.classes fit (sym c.if-not-within-limits.ensures) c.classes-within-limits.ensures.eight (sym c.if-not-classes-within-limits.ensures.within),
+        accepted (length t.rows) (lengths_of t) c.args.settings c.args.classes fit (sym c.if-not-within_limits.ensures) c.classes_within_limits.ensures.eight (sym c.if-not-classes_within_limits.ensures.within),
         c.new.ensures.empty t,
         c.new.ensures.kept t fit (length-map c.args.shelves.now (λ s. s.now) ∙ c.told-shelves),
       );
-      shelves-untouched = c.tables-fit-fit.ensures.untouched;
+      shelves_untouched = c.tables_fit-fit.ensures.untouched;
     }

@@ -8,7 +8,7 @@ pub returns : goal.returns
 returns c =
     let o = c.args.self.now in
     let rows = c.args.rows.now in
-    let is = c.first-refusal.ensures in
+    let is = c.first_refusal.ensures in
     record {
       refusal = is ∙ ap (λ n. refusal_of (length rows) o.closed o.classes n c.args.item c.args.content.now) (sym (length-take-le o.rows rows c.requires));
       room = λ e. room_left (length rows) o.closed o.classes o.rows c.args.item c.args.content.now (sym is ∙ e);

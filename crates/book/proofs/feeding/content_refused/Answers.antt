@@ -4,4 +4,4 @@ use Rattle.items.specs.Refusals.{content_refusal}
 use Rattle.book.proofs.feeding.content_refused.Goals as goal
 
 pub returns : goal.returns
-returns c = c.content-refusal.ensures ∙ ap content_refusal (map-id c.args.content.now)
+returns c = c.refusal_of.ensures ∙ ap content_refusal (map-id c.args.content.now)

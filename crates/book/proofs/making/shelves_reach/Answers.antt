@@ -1,4 +1,4 @@
-use Rattle.std.proofs.Common.{◌≡◌, ℕ, Bool, leb, List, map, length, sym, ◌∙◌, arith, Bor, rules}
+use Rattle.std.proofs.Common.{◌≡◌, ℕ, Bool, leb, List, map, length, sym, ◌∙◌, arith, MutBor, rules}
 use Rattle.std.specs.List.{list_all}
 use Rattle.std.proofs.lemmas.Bool.{le-leb, lt-leb}
 use Rattle.items.specs.declared.Piece.{Piece}
@@ -6,10 +6,10 @@ use Rattle.book.proofs.Passing.{pass_more, pass_not, pass_all, pass_map}
 use Rattle.book.proofs.making.shelves_reach.Goals as goal
 
 -- the lengths of the shelves, or the shelves by their lengths
-abbrev reaches : ℕ → Bor (List Piece) → Bool
+abbrev reaches : ℕ → MutBor (List Piece) → Bool
 reaches n s = leb n (length s.now)
 
-by_length : (n : ℕ) (shelves : List (Bor (List Piece))) → list_all (leb n) (map length (map (λ s. s.now) shelves)) ≡ list_all (reaches n) shelves
+by_length : (n : ℕ) (shelves : List (MutBor (List Piece))) → list_all (leb n) (map length (map (λ s. s.now) shelves)) ≡ list_all (reaches n) shelves
 by_length n shelves = pass_map (leb n) length (map (λ s. s.now) shelves) ∙ pass_map (λ s. leb n (length s)) (λ s. s.now) shelves
 
 pub returns-then-shelves-c : goal.returns-then-shelves-c

@@ -1,5 +1,6 @@
 // Texts that are at fault, and the line and cause of each.
 use crate::reads::*;
+use std::test::Fail;
 
 #[test]
 fn lines_that_are_no_record(rt: HostRuntime) -> Result<(), Fail> {

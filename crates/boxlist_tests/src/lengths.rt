@@ -1,6 +1,7 @@
 // Long texts, and what a text's length is refused for.
 use crate::reads::*;
 use boxlist::faults::length_fault;
+use std::test::Fail;
 
 // Settings, as many boxes as asked for, and the end.
 fn boxes(rt: &HostRuntime, count: usize) -> Result<Vec<u8>, Fail> {

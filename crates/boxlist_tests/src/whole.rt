@@ -1,5 +1,6 @@
 // Texts that are read to their end, whatever a book may say of their entries.
 use crate::reads::*;
+use std::test::Fail;
 
 #[test]
 fn texts_read_to_their_end_1(rt: HostRuntime) -> Result<(), Fail> {

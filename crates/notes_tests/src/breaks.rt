@@ -1,6 +1,7 @@
 // Where a note breaks.
 use crate::tables::*;
 use cost::badness;
+use std::test::Fail;
 
 #[test]
 fn badness_by_hand(rt: HostRuntime) {

@@ -4,6 +4,7 @@ use items::Item;
 use items::refusals::Refusal;
 use notes::split::split_note;
 use std::process::Abort;
+use std::test::Fail;
 
 // To a negative height the penalty at the start is the break: an empty piece, and the penalty is dropped.
 #[test]

@@ -3,6 +3,7 @@ use crate::tables::*;
 use items::Item;
 use page::breaks::Ahead;
 use std::process::Abort;
+use std::test::Fail;
 
 fn ahead(next: Option<Item>, after: Option<Item>) -> Ahead {
     Ahead {

@@ -1,5 +1,6 @@
 // What items and notes come to on a page.
 use crate::tables::*;
+use std::test::Fail;
 
 // The first box stands 10 below the edge; the note's 20 and the skip of 5 leave 75.
 #[test]

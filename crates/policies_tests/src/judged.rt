@@ -6,6 +6,7 @@ use policies::limited::Limited;
 use policies::paired::Paired;
 use policies::plain::Plain;
 use std::process::Abort;
+use std::test::Fail;
 
 // No class ships until the limiter acts, and a settling that ships body text starts the count again.
 #[test]

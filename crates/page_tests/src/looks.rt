@@ -2,7 +2,6 @@
 use crate::tables::*;
 use items::Item;
 use page::breaks::Ahead;
-use std::process::Abort;
 use std::test::Fail;
 
 fn ahead(next: Option<Item>, after: Option<Item>) -> Ahead {
@@ -22,8 +21,8 @@ fn penalty(value: i32) -> Item {
 }
 
 // Whether the place after a page is a candidate, and then what it costs; 0 where it is none.
-fn cost_of(rt: &impl Abort, numbers: &[u32], ahead: Ahead) -> Result<i64, Fail> {
-    match look(rt, &basis(100, 0), numbers, ahead, None)?.best {
+fn cost_of(numbers: &[u32], ahead: Ahead) -> Result<i64, Fail> {
+    match look(&ground(100, 0), numbers, ahead, None)?.best {
         Some(best) => Ok(best.cost),
         None => Ok(0),
     }
@@ -32,13 +31,7 @@ fn cost_of(rt: &impl Abort, numbers: &[u32], ahead: Ahead) -> Result<i64, Fail> 
 // Glue after a note is a candidate; it remembers the goal and the last note.
 #[test]
 fn glue_after_a_note(rt: HostRuntime) -> Result<(), Fail> {
-    let looked = look(
-        &rt,
-        &basis(100, 0),
-        &[1, 2],
-        ahead(Some(glue()), None),
-        None,
-    )?;
+    let looked = look(&ground(100, 0), &[1, 2], ahead(Some(glue()), None), None)?;
     assert!(rt; !looked.fires);
     match looked.best {
         Some(best) => {
@@ -54,31 +47,28 @@ fn glue_after_a_note(rt: HostRuntime) -> Result<(), Fail> {
 
 #[test]
 fn glue_after_a_box_and_after_glue(rt: HostRuntime) -> Result<(), Fail> {
-    assert_eq!(rt; cost_of(&rt, &[1], ahead(Some(glue()), None))?, 100_000);
-    assert_eq!(rt; cost_of(&rt, &[1, 5], ahead(Some(glue()), None))?, 0);
+    assert_eq!(rt; cost_of(&[1], ahead(Some(glue()), None))?, 100_000);
+    assert_eq!(rt; cost_of(&[1, 5], ahead(Some(glue()), None))?, 0);
     Ok(())
 }
 
 // A page of notes alone may break before its first box.
 #[test]
 fn before_the_first_box(rt: HostRuntime) -> Result<(), Fail> {
-    assert_eq!(rt; cost_of(&rt, &[2], ahead(Some(bx(8, 2)), None))?, 100_000);
-    assert_eq!(rt; cost_of(&rt, &[], ahead(Some(bx(8, 2)), None))?, 0);
-    assert_eq!(rt; cost_of(&rt, &[1, 2], ahead(Some(bx(8, 2)), None))?, 0);
+    assert_eq!(rt; cost_of(&[2], ahead(Some(bx(8, 2)), None))?, 100_000);
+    assert_eq!(rt; cost_of(&[], ahead(Some(bx(8, 2)), None))?, 0);
+    assert_eq!(rt; cost_of(&[1, 2], ahead(Some(bx(8, 2)), None))?, 0);
     Ok(())
 }
 
 // A kern is a candidate before glue only, and a penalty below 10,000.
 #[test]
 fn kerns_and_penalties(rt: HostRuntime) -> Result<(), Fail> {
-    assert_eq!(rt;
-        cost_of(&rt, &[1], ahead(Some(kern()), Some(glue())))?,
-        100_000
-    );
-    assert_eq!(rt; cost_of(&rt, &[1], ahead(Some(kern()), Some(bx(8, 2))))?, 0);
-    assert_eq!(rt; cost_of(&rt, &[1], ahead(Some(kern()), None))?, 0);
-    assert_eq!(rt; cost_of(&rt, &[1], ahead(Some(penalty(10_000)), None))?, 0);
-    assert_eq!(rt; cost_of(&rt, &[2], ahead(Some(penalty(50)), None))?, 0);
+    assert_eq!(rt; cost_of(&[1], ahead(Some(kern()), Some(glue())))?, 100_000);
+    assert_eq!(rt; cost_of(&[1], ahead(Some(kern()), Some(bx(8, 2))))?, 0);
+    assert_eq!(rt; cost_of(&[1], ahead(Some(kern()), None))?, 0);
+    assert_eq!(rt; cost_of(&[1], ahead(Some(penalty(10_000)), None))?, 0);
+    assert_eq!(rt; cost_of(&[2], ahead(Some(penalty(50)), None))?, 0);
     Ok(())
 }
 
@@ -86,8 +76,7 @@ fn kerns_and_penalties(rt: HostRuntime) -> Result<(), Fail> {
 #[test]
 fn what_fires(rt: HostRuntime) -> Result<(), Fail> {
     let ordered = look(
-        &rt,
-        &basis(100, 0),
+        &ground(100, 0),
         &[1],
         ahead(Some(penalty(-10_000)), None),
         None,
@@ -98,19 +87,18 @@ fn what_fires(rt: HostRuntime) -> Result<(), Fail> {
         after: None,
         closed: true,
     };
-    assert!(rt; look(&rt, &basis(100, 0), &[1], end, None)?.fires);
-    assert!(rt; !look(&rt, &basis(100, 0), &[], end, None)?.fires);
-    assert!(rt; !look(&rt, &basis(100, 0), &[1], ahead(None, None), None)?.fires);
+    assert!(rt; look(&ground(100, 0), &[1], end, None)?.fires);
+    assert!(rt; !look(&ground(100, 0), &[], end, None)?.fires);
+    assert!(rt; !look(&ground(100, 0), &[1], ahead(None, None), None)?.fires);
     Ok(())
 }
 
 // Both places cost 100,000: the later one is the best.
 #[test]
 fn the_last_of_equal_costs(rt: HostRuntime) -> Result<(), Fail> {
-    let first = look(&rt, &basis(100, 0), &[1], ahead(Some(glue()), None), None)?;
+    let first = look(&ground(100, 0), &[1], ahead(Some(glue()), None), None)?;
     let second = look(
-        &rt,
-        &basis(100, 0),
+        &ground(100, 0),
         &[1, 2],
         ahead(Some(glue()), None),
         first.best,

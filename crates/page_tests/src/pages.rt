@@ -5,7 +5,7 @@ use std::test::Fail;
 // The first box stands 10 below the edge; the note's 20 and the skip of 5 leave 75.
 #[test]
 fn a_note_that_stays_whole(rt: HostRuntime) -> Result<(), Fail> {
-    let page = page_of(&rt, &basis(100, 0), &[1, 2])?;
+    let page = page_of(&ground(100, 0), &[1, 2])?;
     assert_eq!(rt; page.goal, 75, "the goal");
     assert_eq!(rt; page.sums.total, 10, "the total");
     assert_eq!(rt; page.sums.depth, 2, "the depth");
@@ -19,7 +19,7 @@ fn a_note_that_stays_whole(rt: HostRuntime) -> Result<(), Fail> {
 // What lies on the shelf goes off the goal with the first note.
 #[test]
 fn a_shelf_of_30(rt: HostRuntime) -> Result<(), Fail> {
-    let page = page_of(&rt, &basis(100, 30), &[1, 2])?;
+    let page = page_of(&ground(100, 30), &[1, 2])?;
     assert_eq!(rt; page.goal, 45);
     assert_eq!(rt; page.classes[0].height, 50);
     Ok(())
@@ -28,7 +28,7 @@ fn a_shelf_of_30(rt: HostRuntime) -> Result<(), Fail> {
 // With 50 on the shelf the limit of 60 leaves 10: the only break is the end, though it costs the most.
 #[test]
 fn a_note_broken_at_its_end(rt: HostRuntime) -> Result<(), Fail> {
-    let page = page_of(&rt, &basis(100, 50), &[1, 2])?;
+    let page = page_of(&ground(100, 50), &[1, 2])?;
     assert_eq!(rt; page.goal, 25);
     assert_eq!(rt; page.classes[0].height, 70);
     assert!(rt; page.classes[0].split);
@@ -40,10 +40,10 @@ fn a_note_broken_at_its_end(rt: HostRuntime) -> Result<(), Fail> {
 // Room for 18 and 4 to shrink hold a note of 20; with nothing to shrink it is broken.
 #[test]
 fn shrink_counts_as_room(rt: HostRuntime) -> Result<(), Fail> {
-    let shrunk = page_of(&rt, &basis(87, 0), &[1, 5, 6, 2])?;
+    let shrunk = page_of(&ground(87, 0), &[1, 5, 6, 2])?;
     assert_eq!(rt; shrunk.goal, 62);
     assert!(rt; !shrunk.classes[0].split);
-    let tight = page_of(&rt, &basis(77, 0), &[1, 6, 2])?;
+    let tight = page_of(&ground(77, 0), &[1, 6, 2])?;
     assert_eq!(rt; tight.goal, 52);
     assert!(rt; tight.classes[0].split);
     Ok(())
@@ -52,7 +52,7 @@ fn shrink_counts_as_room(rt: HostRuntime) -> Result<(), Fail> {
 // 27 is above the limit of 20, so the note breaks at its penalty of 7 after 12; the next of its class floats.
 #[test]
 fn a_note_that_floats(rt: HostRuntime) -> Result<(), Fail> {
-    let page = page_of(&rt, &basis(100, 0), &[1, 9, 13])?;
+    let page = page_of(&ground(100, 0), &[1, 9, 13])?;
     assert_eq!(rt; page.goal, 85);
     assert_eq!(rt; page.classes[1].height, 12);
     assert_eq!(rt; page.classes[1].last, 9);
@@ -64,7 +64,7 @@ fn a_note_that_floats(rt: HostRuntime) -> Result<(), Fail> {
 // Only the first box is moved down; glue takes the depth of 2 over.
 #[test]
 fn boxes_glue_and_kerns(rt: HostRuntime) -> Result<(), Fail> {
-    let page = page_of(&rt, &basis(100, 0), &[1, 5, 1, 7])?;
+    let page = page_of(&ground(100, 0), &[1, 5, 1, 7])?;
     assert_eq!(rt; page.sums.total, 35);
     assert_eq!(rt; page.sums.depth, 0);
     assert_eq!(rt; page.sums.shrink, 4);

@@ -1,5 +1,5 @@
 // The galley of the tests, and pages of it.
-ghost use Rattle.std.specs.Prelude.{◌≡◌, ◌^◌, ◌≤◌, pos, IfOk, unsigned_abs};
+ghost use Rattle.std.specs.Prelude.{◌≡◌, ◌^◌, ◌≤◌, pos, true, IfOk, unsigned_abs};
 ghost use Rattle.items.specs.declared.Item.TheVariants.{Box, Glue};
 ghost use Rattle.items.specs.Items.{most};
 ghost use Rattle.page.specs.Standing.{Grounded, Standing};
@@ -8,7 +8,6 @@ ghost use Rattle.page_tests.specs.Galley.{galley};
 use items::{Class, Item, Row, Settings};
 use page::breaks::{Ahead, Looked, PageBreak};
 use page::{Ground, PageSoFar};
-use std::process::Abort;
 use std::test::Fail;
 
 pub(crate) fn bx(height: u32, depth: u32) -> Item
@@ -53,7 +52,7 @@ pub(crate) fn galley() -> [Row; 14]
 
 // Pages of a size, on a shelf of class 0 with something on it. Class 0 has limit 60 and skip 5, class 1 limit 20, skip 3 and
 // floating cost 30.
-pub(crate) fn basis(size: u32, shelved: i64) -> Ground
+pub(crate) fn ground(size: u32, shelved: i64) -> Ground
     requires first { 1 ≤ size }
     requires last { size ≤ most }
     requires shelved { unsigned_abs shelved ≤ 2 ^ 45 }
@@ -92,17 +91,24 @@ pub(crate) fn basis(size: u32, shelved: i64) -> Ground
     }
 }
 
+// An error where something does not hold.
+fn check(holds: bool, what: &str) -> Result<(), Fail>
+    ensures { IfOk result (λ _. holds ≡ true) }
+{
+    if holds { Ok(()) } else { Err(Fail::new(what)) }
+}
+
 // The page of some numbers of the galley.
-pub(crate) fn page_of(rt: &impl Abort, basis: &Ground, numbers: &[u32]) -> Result<PageSoFar, Fail>
+pub(crate) fn page_of(basis: &Ground, numbers: &[u32]) -> Result<PageSoFar, Fail>
     requires { Grounded basis.now }
     ensures { IfOk result (λ m. Standing basis.now galley numbers.now m) }
 {
-    assert!(rt; numbers.len() <= 8);
+    check(numbers.len() <= 8, "no more than eight numbers")?;
     let rows = galley();
     let mut page = PageSoFar::new(basis);
     for x in numbers {
-        assert!(rt; 1 <= *x);
-        assert!(rt; *x <= 14);
+        check(1 <= *x, "a number of the galley")?;
+        check(*x <= 14, "a number of the galley")?;
         page.add(basis, &rows, *x);
     }
     Ok(page)
@@ -110,7 +116,6 @@ pub(crate) fn page_of(rt: &impl Abort, basis: &Ground, numbers: &[u32]) -> Resul
 
 // A look after the page of some numbers.
 pub(crate) fn look(
-    rt: &impl Abort,
     basis: &Ground,
     numbers: &[u32],
     ahead: Ahead,
@@ -118,6 +123,6 @@ pub(crate) fn look(
 ) -> Result<Looked, Fail>
     requires { Grounded basis.now }
 {
-    let page = page_of(rt, basis, numbers)?;
+    let page = page_of(basis, numbers)?;
     Ok(page.look(numbers, &galley(), ahead, best))
 }

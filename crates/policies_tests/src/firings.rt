@@ -1,8 +1,7 @@
 // Drives a policy through a list of firings.
-ghost use Rattle.std.specs.Prelude.{◌≡◌, ◌+◌, ◌^◌, ◌<◌, ◌≤◌, [], length};
+ghost use Rattle.std.specs.Prelude.{◌≡◌, ◌+◌, ◌^◌, ◌<◌, ◌≤◌, true, [], length, IfOk};
 
 use policies::{Policy, Verdict};
-use std::process::Abort;
 use std::test::Fail;
 
 // `body` items are fired while each shelf has `shelved`; then the first `shipped` of what was held and the body
@@ -49,30 +48,40 @@ fn judge<P: Policy>(policy: &mut P, body: &[u32], shelved: u32) -> Verdict
     policy.judge(body, &[shelved; 8], 10_000, &[])
 }
 
-// The items held are the last of those fired.
-fn check_held<P: Policy>(rt: &impl Abort, policy: &P, held: usize, fired: usize)
-    requires { length (P.Policy.held policy.now) < 2 ^ 64 }
+// An error where something does not hold.
+fn check(holds: bool, what: &str) -> Result<(), Fail>
+    ensures { IfOk result (λ _. holds ≡ true) }
 {
-    assert_eq!(rt; policy.held_count(), held, "how many are held");
-    for k in 0..policy.held_count() {
-        assert!(rt; k < held && held <= fired && fired <= 2048);
-        assert_eq!(rt;
-            policy.held_at(k) as usize,
-            fired - held + k + 1,
-            "an item held"
-        );
-    }
+    if holds { Ok(()) } else { Err(Fail::new(what)) }
 }
 
-fn check_classes(rt: &impl Abort, verdict: &Verdict, classes: bool) {
-    for i in 0..8 {
-        assert_eq!(rt; verdict.classes[i], classes, "a class");
+// The items held are the last of those fired.
+fn check_held<P: Policy>(policy: &P, held: usize, fired: usize) -> Result<(), Fail>
+    requires { length (P.Policy.held policy.now) < 2 ^ 64 }
+{
+    check(policy.held_count() == held, "how many are held")?;
+    for k in 0..policy.held_count() {
+        check(
+            k < held && held <= fired && fired <= 2048,
+            "no more are held than fired",
+        )?;
+        check(
+            policy.held_at(k) as usize == fired - held + k + 1,
+            "an item held",
+        )?;
     }
+    Ok(())
+}
+
+fn check_classes(verdict: &Verdict, classes: bool) -> Result<(), Fail> {
+    for i in 0..8 {
+        check(verdict.classes[i] == classes, "a class")?;
+    }
+    Ok(())
 }
 
 // Nothing is ever returned, so all that was held and fired ships or is held.
 fn check_firing<P: Policy>(
-    rt: &impl Abort,
     policy: &mut P,
     body: &[u32],
     firing: Firing,
@@ -83,36 +92,35 @@ fn check_firing<P: Policy>(
 {
     let before = policy.held_count();
     let verdict = judge(policy, body, firing.shelved);
-    assert_eq!(rt; verdict.shipped, firing.shipped, "how many ship");
-    assert_eq!(rt; verdict.held, firing.held, "how many are to be held");
-    assert!(rt; verdict.shipped <= 16_384 && verdict.held <= 16_384);
-    assert_eq!(rt;
-        verdict.shipped + verdict.held,
-        before + body.len(),
-        "how many are returned"
-    );
-    check_classes(rt, &verdict, firing.classes);
-    check_held(rt, policy, firing.held, fired);
-    Ok(())
+    check(verdict.shipped == firing.shipped, "how many ship")?;
+    check(verdict.held == firing.held, "how many are to be held")?;
+    check(
+        verdict.shipped <= 16_384 && verdict.held <= 16_384,
+        "no more than a table has",
+    )?;
+    check(
+        verdict.shipped + verdict.held == before + body.len(),
+        "how many are returned",
+    )?;
+    check_classes(&verdict, firing.classes)?;
+    check_held(policy, firing.held, fired)
 }
 
-pub(crate) fn drive<P: Policy + Drop>(
-    rt: &impl Abort,
-    mut policy: P,
-    firings: &[Firing],
-) -> Result<(), Fail>
+pub(crate) fn drive<P: Policy + Drop>(mut policy: P, firings: &[Firing]) -> Result<(), Fail>
     requires { P.Policy.held policy ≡ [] }
 {
     let numbers = numbers();
     let mut fired = 0;
     for firing in firings {
         let first = fired;
-        assert!(rt; firing.body <= 2048 && first + firing.body <= 2048);
+        check(
+            firing.body <= 2048 && first + firing.body <= 2048,
+            "as many numbers as there are",
+        )?;
         fired = first + firing.body;
-        check_firing(rt, &mut policy, &numbers[first..fired], *firing, fired)?;
+        check_firing(&mut policy, &numbers[first..fired], *firing, fired)?;
     }
     let held = policy.held_count();
-    assert_eq!(rt; policy.release(), held, "how many are released");
-    assert_eq!(rt; policy.held_count(), 0, "what is held after a release");
-    Ok(())
+    check(policy.release() == held, "how many are released")?;
+    check(policy.held_count() == 0, "what is held after a release")
 }

@@ -10,9 +10,8 @@ use std::test::Fail;
 
 // No class ships until the limiter acts, and a settling that ships body text starts the count again.
 #[test]
-fn plain(rt: HostRuntime) -> Result<(), Fail> {
+fn plain() -> Result<(), Fail> {
     drive(
-        &rt,
         Limited::new(Plain, 2)?,
         &[
             fire(3, 1, 3, 0, false),
@@ -27,9 +26,8 @@ fn plain(rt: HostRuntime) -> Result<(), Fail> {
 }
 
 #[test]
-fn footnoted(rt: HostRuntime) -> Result<(), Fail> {
+fn footnoted() -> Result<(), Fail> {
     drive(
-        &rt,
         Limited::new(Footnoted, 1)?,
         &[
             fire(3, 1, 3, 0, true),
@@ -43,9 +41,8 @@ fn footnoted(rt: HostRuntime) -> Result<(), Fail> {
 // 512 items become a column, 513 do not; where nothing ships below, the classes still ship; a column ships though
 // nothing follows it. In the second list the shelves' content counts: without it the limiter would act at the third.
 #[test]
-fn paired(rt: HostRuntime) -> Result<(), Fail> {
+fn paired() -> Result<(), Fail> {
     drive(
-        &rt,
         Limited::new(Paired::new(Footnoted), 100)?,
         &[
             fire(512, 1, 0, 512, false),
@@ -57,7 +54,6 @@ fn paired(rt: HostRuntime) -> Result<(), Fail> {
         ],
     )?;
     drive(
-        &rt,
         Limited::new(Paired::new(Footnoted), 2)?,
         &[
             fire(0, 0, 0, 0, true),
@@ -71,9 +67,8 @@ fn paired(rt: HostRuntime) -> Result<(), Fail> {
 // Four columns a page. With bound 100 the limiter never acts; with 1 and 2 it ships what the pairs would hold, and
 // counts from 0 again; a shelf whose class is not named does not count.
 #[test]
-fn pairs_of_pairs(rt: HostRuntime) -> Result<(), Fail> {
+fn pairs_of_pairs() -> Result<(), Fail> {
     drive(
-        &rt,
         Limited::new(Paired::new(Paired::new(Footnoted)), 100)?,
         &[
             fire(3, 1, 0, 3, false),
@@ -84,7 +79,6 @@ fn pairs_of_pairs(rt: HostRuntime) -> Result<(), Fail> {
         ],
     )?;
     drive(
-        &rt,
         Limited::new(Paired::new(Paired::new(Footnoted)), 1)?,
         &[
             fire(3, 1, 0, 3, false),
@@ -94,7 +88,6 @@ fn pairs_of_pairs(rt: HostRuntime) -> Result<(), Fail> {
         ],
     )?;
     drive(
-        &rt,
         Limited::new(Paired::new(Paired::new(Footnoted)), 2)?,
         &[
             fire(3, 1, 0, 3, false),

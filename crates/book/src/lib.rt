@@ -1,5 +1,7 @@
 // A book between its calls. Its tables are lent at each call, always the same ones and in one order: item rows,
 // contributions, page, waiting notes, shipped numbers, pages and the shelves.
+#![tactic(auto)]
+
 pub mod feeding;
 pub mod making;
 

@@ -3,7 +3,6 @@ use Rattle.std.proofs.Common.{◌≡◌, ℕ, ◌+◌, ◌-◌, ◌<◌, ◌≤�
 use Rattle.std.proofs.lemmas.List.{map_push, take_more_set, drop-set-lt, drop-drop, length_push}
 use Rattle.std.proofs.lemmas.Bool.{ne_eqb}
 use Rattle.items.specs.declared.Item.{Item}
-use Rattle.boxlist.specs.declared.faults.Fault.{Fault}
 use Rattle.boxlist.specs.declared.faults.TextCause.TheVariants.{Limits}
 use Rattle.boxlist.specs.Faults.{text_fault}
 use Rattle.boxlist.specs.declared.list.BoxList.{BoxList}

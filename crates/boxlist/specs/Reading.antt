@@ -9,7 +9,6 @@ use Rattle.boxlist.specs.declared.order.Stage.TheVariants.{Start, Classes, Entri
 use Rattle.boxlist.specs.declared.reader.Reading.{Reading}
 use Rattle.boxlist.specs.declared.reader.Reading.TheVariants as reading
 use Rattle.boxlist.specs.declared.records.Record.{Record}
-use Rattle.boxlist.specs.declared.records.Record.TheVariants.{Class, Box, End}
 use Rattle.items.specs.declared.Item.{Item}
 use Rattle.boxlist.specs.declared.list.BoxList.{BoxList}
 use Rattle.boxlist.specs.Lines.{Answers, line_at, lines_passed}

@@ -1,4 +1,6 @@
 // A reader of box lists, the text in which a galley arrives.
+#![tactic(auto)]
+
 mod cursor;
 pub mod faults;
 pub mod list;

@@ -1,3 +1,5 @@
+#![tactic(auto)]
+
 // Box lists that tell the rules from near misses, each read from beginning to end.
 #[cfg(test)]
 mod faulty;

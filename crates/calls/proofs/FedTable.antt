@@ -11,7 +11,7 @@ use Rattle.items.specs.declared.Row.{Row}
 use Rattle.items.specs.declared.Place.TheVariants.{Owed}
 use Rattle.items.specs.Lists.{span}
 use Rattle.items.specs.Items.{is_note, blank, within_limits, fed_row}
-use Rattle.items.specs.Table.{row_at, item_at, content, note_at, WellFormed, Content}
+use Rattle.items.specs.Table.{row_at, item_at, note_at, WellFormed, Content}
 use Rattle.calls.specs.Firing.{note_class}
 use Rattle.calls.specs.Findings.{texts, is_dropped, kept_in}
 use Rattle.calls.proofs.ListLaws.{kept_by_all, kept_by_none, all_both, kept_by_same}

@@ -16,7 +16,7 @@ use Rattle.policies.specs.declared.Verdict.{Verdict}
 use Rattle.policies.specs.Policies.{Rule, Splits, named, shipped_of, returned_of, every_class}
 use Rattle.calls.specs.Book.{Book, Output}
 use Rattle.calls.specs.Firing.{note_class}
-use Rattle.calls.specs.Settling.{emptied, on_shelves, listed, settled_book, judged_book, given, Settled, judged, released}
+use Rattle.calls.specs.Settling.{emptied, on_shelves, settled_book, judged_book, given, Settled, judged, released}
 use Rattle.calls.specs.Runs.{is_open, is_fired}
 use Rattle.calls.specs.Findings.{times, waiting_in, shelved, texts, kept_in, body, text_of, lies}
 use Rattle.calls.proofs.ListLaws.{kept_by_all, kept_by_none, all_left, all_right}

@@ -14,7 +14,7 @@ use Rattle.calls.specs.Book.{Book, Output}
 use Rattle.calls.specs.Firing.{fired_book, fired_output}
 use Rattle.calls.specs.Stepping.{Answer, done, stays, fires, without, last_output}
 use Rattle.calls.specs.Settling.{given, judged_book, Settled, judged, released}
-use Rattle.calls.specs.Runs.{Call, fed, feed_refused, closed, close_refused, answered, fired, settled, State, is_open, is_fired, none, feed, refuse, close, close_again, step, fire, settle, made}
+use Rattle.calls.specs.Runs.{Call, fed, feed_refused, closed, close_refused, answered, fired, settled, State, is_open, is_fired, none, feed, refuse, close, close_again, step, fire, settle}
 use Rattle.calls.specs.Findings.{book_of, fed_by, owed_for, owed, texts, shelved, steps_in, Ends, UnderOnward, DoneInTime}
 use Rattle.calls.proofs.ListLaws.{all_right}
 use Rattle.calls.proofs.Invariant.{to_come, owes, HasLeft, Inv}

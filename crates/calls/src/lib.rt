@@ -1,4 +1,5 @@
 // What the statements on a book speak of, and the law over lists of calls.
+#![tactic(auto)]
 
 pub mod laws;
 

@@ -1,4 +1,6 @@
 // What a galley is made of, and the table that keeps it. Lengths are whole scaled points.
+#![tactic(auto)]
+
 ghost use Rattle.std.specs.Prelude.{◌≡◌};
 ghost use Rattle.items.specs.Items.{is_box, is_glue, is_note, is_discardable, within_limits, size_of, fed_row};
 ghost use Rattle.items.specs.Limits.{settings_within, class_within};

@@ -1,4 +1,6 @@
 // Where a note breaks.
+#![tactic(auto)]
+
 ghost use Rattle.std.specs.Prelude.{◌≡◌, ◌+◌, ◌^◌, ◌<◌, ◌≤◌, length, take, drop, pos, ◌+ℤ◌, ◌<ℤ◌, Some, unsigned_abs};
 ghost use Rattle.items.specs.Items.{is_box, is_glue, items_of};
 ghost use Rattle.cost.specs.Cost.{forbidden};

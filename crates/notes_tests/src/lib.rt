@@ -1,3 +1,5 @@
+#![tactic(auto)]
+
 // Examples worked by hand from the rules: badness, where a note breaks, how it is split, and what is refused.
 #[cfg(test)]
 mod breaks;

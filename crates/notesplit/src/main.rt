@@ -1,4 +1,6 @@
 // Reads a box list and prints, for each note in it, how it would fall into columns of its class's limit.
+#![tactic(auto)]
+
 mod galley;
 mod show;
 

@@ -1,4 +1,6 @@
 // The current page's running numbers, kept as items arrive.
+#![tactic(auto)]
+
 ghost use Rattle.std.specs.Prelude.{◌≡◌, ℕ, ◌^◌, ◌<◌, ◌≤◌, true, List, [], ◌∷◌, ◌++◌, length, unsigned_abs};
 ghost use Rattle.items.specs.declared.Item.TheVariants.{Box};
 ghost use Rattle.items.specs.Items.{within_limits};

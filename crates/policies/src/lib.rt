@@ -1,4 +1,6 @@
 // Page policies: what is shipped, held back or returned of each fired page.
+#![tactic(auto)]
+
 ghost use Rattle.std.specs.Prelude.{◌≡◌, ℕ, ◌+◌, ◌^◌, ◌<◌, ◌≤◌, List, [], length, slice_index};
 ghost use Rattle.policies.specs.declared.Verdict.{Verdict};
 ghost use Rattle.policies.specs.Policies.{Given, Splits};

@@ -1,4 +1,6 @@
 // A ring queue over lent cells, for any plain element.
+#![tactic(auto)]
+
 ghost use Rattle.std.specs.Prelude.{◌≡◌, ◌+◌, ◌<◌, [], ◌∷◌, ◌++◌, length, drop, MatchOption, slice_index_or};
 ghost use Rattle.queue.specs.Queues.{none, Within, list_of, place_of, next, previous};
 

@@ -1,5 +1,5 @@
 -- What went through the machine's numbers is what it was.
-use Rattle.std.proofs.Common.{◌≡◌, ℤ, pos, ◌+ℤ◌, w32, w64}
+use Rattle.std.proofs.Common.{◌≡◌, pos, ◌+ℤ◌, w32, w64}
 use Rattle.std.proofs.lemmas.Int.{to_z-of_z}
 use Rattle.cost.specs.Cost.{break_cost}
 use Rattle.cost.specs.Sums.{fit_of}

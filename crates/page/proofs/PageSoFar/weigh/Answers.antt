@@ -1,5 +1,5 @@
 -- No cost is above the most.
-use Rattle.std.proofs.Common.{◌≡◌, ℤ, pos, ◌≤ℤ◌, sym, subst}
+use Rattle.std.proofs.Common.{◌≡◌, pos, ◌≤ℤ◌, sym, subst}
 use Rattle.std.proofs.lemmas.Int.{to_z-of_z}
 use Rattle.items.specs.Items.{most}
 use Rattle.cost.specs.Sums.{fit_of}

@@ -4,7 +4,7 @@ use Rattle.std.proofs.lemmas.Int.{to_z-of_z}
 use Rattle.boxlist.specs.declared.marks.Mark.TheVariants.{St, Cl, Bx, Gl, Nt}
 use Rattle.boxlist.specs.Parts.{Exactly}
 use Rattle.boxlist.specs.Texts.{text_of, Fits}
-use Rattle.boxlist.proofs.Bodies.{no_mark, after_mark, plain, no_lead, led}
+use Rattle.boxlist.proofs.Bodies.{no_mark, after_mark, plain, led}
 use Rattle.boxlist.proofs.cursor.Cursor.body.Goals as goal
 
 pub returns-in_err-mark : goal.returns-in_err-mark

@@ -1,5 +1,5 @@
 -- The byte at the cursor is the one that is looked for, or another stands there, or none.
-use Rattle.std.proofs.Common.{true, false, sym, refl, ◌∙◌}
+use Rattle.std.proofs.Common.{sym, refl, ◌∙◌}
 use Rattle.std.proofs.lemmas.Bool.{true≢false, false≢true}
 use Rattle.boxlist.proofs.Passes.{over, next, passed_one, same_first, none_first}
 use Rattle.boxlist.proofs.cursor.Cursor.skip.Goals as goal

@@ -1,5 +1,5 @@
 -- The items held come before those of the body.
-use Rattle.std.proofs.Common.{◌-◌, sym, ◌∙◌, arith}
+use Rattle.std.proofs.Common.{sym, ◌∙◌, arith}
 use Rattle.std.proofs.lemmas.List.{get_or_append_left, get_or-append_right}
 use Rattle.policies.proofs.paired.judging.item_at.Goals as goal
 

@@ -1,7 +1,8 @@
 #!/usr/bin/env python3
 """Brings the repository's own definitions, lemmas and their variables to snake case.
 
-Run once at the top of the repository, after the toolchain's port.py: python3 tools/respell.py
+Run once at the top of the repository, right after the toolchain's port.py: python3 tools/respell.py
+A second run is no run over: it takes `is_body`, by then a definition, for the lemma that port.py spells so.
 It goes by text: a name is the repository's own if some file of specs/ or proofs/ declares or binds it and none imports it
 from the library. Functions of src/ have snake case already. Names with a capital first keep it.
 """
@@ -82,6 +83,14 @@ def main():
         new = "\n".join(line if line.strip().startswith(("--", "//")) else word.sub(turn, line) for line in text.split("\n"))
         if new != text:
             open(path, "w").write(new)
+    # the library's own All goes by index; what these files say goes by recursion, so it takes that name
+    for path in proofs + sources:
+        text = open(path).read()
+        if "AllByRecursion as All" in text:
+            text = text.replace("AllByRecursion as All", "AllByRecursion")
+            open(path, "w").write("\n".join(
+                line if line.strip().startswith(("--", "//")) else word.sub(lambda m: "AllByRecursion" if m.group(0) == "All" else m.group(0), line)
+                for line in text.split("\n")))
     pages = [p for p in glob.glob("docs/*.md") + ["README.md"] if os.path.exists(p) and not p.endswith("PORT.md")]
     for path in pages:
         text = open(path).read()

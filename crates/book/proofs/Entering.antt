@@ -1,6 +1,6 @@
 -- Once its rows and its number are written, what is fed is in the book, and the tables keep it.
 use Rattle.std.proofs.Common.{◌≡◌, ℕ, ◌+◌, ◌≤◌, List, [], ◌∷◌, ◌++◌, length, take, None, sym, ap, ◌∙◌, subst, ap₂, arith}
-use Rattle.std.specs.List.{AllByRecursion as All}
+use Rattle.std.specs.List.{AllByRecursion}
 use Rattle.std.proofs.lemmas.List.{length-take-le, length_push}
 use Rattle.items.specs.declared.Item.{Item}
 use Rattle.items.specs.declared.Row.{Row}
@@ -80,7 +80,7 @@ module _ (o : Open) (rows rows' : List Row) (contributions contributions' : List
         waiting = omega (arith, t.waiting);
         shipped = omega (arith, t.shipped);
         pages = omega (arith, t.pages);
-        shelves = subst (λ n. All (λ s. n ≤ length s) shelves) (sym long) t.shelves;
+        shelves = subst (λ n. AllByRecursion (λ s. n ≤ length s) shelves) (sym long) t.shelves;
         eight = t.eight;
       }
 

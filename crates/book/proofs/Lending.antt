@@ -1,6 +1,6 @@
 -- What tables within their limits are, and that they keep an empty book.
 use Rattle.std.proofs.Common.{◌≡◌, ℕ, zero, suc, ◌≤◌, Bool, true, false, ◌&&◌, eqb, leb, List, [], ◌∷◌, map, length, replicate, None, sym, refl, ap, ◌∙◌, subst, arith}
-use Rattle.std.specs.List.{AllByRecursion as All, list_all}
+use Rattle.std.specs.List.{AllByRecursion, list_all}
 use Rattle.std.proofs.lemmas.Bool.{and_parts, leb-true, eq-eqb}
 use Rattle.items.specs.declared.Settings.{Settings}
 use Rattle.items.specs.declared.Class.{Class}
@@ -15,11 +15,11 @@ use Rattle.calls.specs.Making.{empty_book, tables_within, acceptable, making_ref
 use Rattle.book.specs.declared.Open.{Open}
 use Rattle.book.specs.View.{Tables, lengths_of, shelves_of, ShelvesWithin, book_of, Fit, Kept}
 
-pass_each : {A : Type 0} (p : A → Bool) (P : A → Type 0) → ((x : A) → p x ≡ true → P x) → (xs : List A) → list_all p xs ≡ true → All P xs
+pass_each : {A : Type 0} (p : A → Bool) (P : A → Type 0) → ((x : A) → p x ≡ true → P x) → (xs : List A) → list_all p xs ≡ true → AllByRecursion P xs
 pass_each p P f [] h = tt
 pass_each p P f (x ∷ xs) h = let k = and_parts (p x) (list_all p xs) h in (f x k.0, pass_each p P f xs k.1)
 
-lengths : {A : Type 0} (n : ℕ) (xss : List (List A)) → All (λ l. n ≤ l) (map length xss) → All (λ xs. n ≤ length xs) xss
+lengths : {A : Type 0} (n : ℕ) (xss : List (List A)) → AllByRecursion (λ l. n ≤ l) (map length xss) → AllByRecursion (λ xs. n ≤ length xs) xss
 lengths n [] h = tt
 lengths n (xs ∷ xss) h = (h.0, lengths n xss h.1)
 
@@ -55,7 +55,7 @@ pub accepted : (n : ℕ) (others : List ℕ) (s : Settings) (cs : List Class) �
     making_refusal n others s cs ≡ None
 accepted n others s cs ht hs hl hc = let e = acceptable_is n others s cs ht hs hl hc in rw e
 
-shelves_within : (n k : ℕ) (cells : List (List Piece)) → 1 ≤ n → length cells ≡ k → All (λ c. n ≤ length c) cells → ShelvesWithin (replicate k none) cells
+shelves_within : (n k : ℕ) (cells : List (List Piece)) → 1 ≤ n → length cells ≡ k → AllByRecursion (λ c. n ≤ length c) cells → ShelvesWithin (replicate k none) cells
 shelves_within n zero [] some e h = tt
 shelves_within n zero (c ∷ cells) some e h = absurd (omega arith)
 shelves_within n (suc k) [] some e h = absurd (omega arith)

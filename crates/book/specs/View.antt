@@ -1,6 +1,6 @@
 -- A book over the tables that are lent to its calls.
 use Rattle.std.specs.Prelude.{◌≡◌, ℕ, ◌+◌, ◌≤◌, true, List, [], ◌∷◌, map, length, take}
-use Rattle.std.specs.List.{AllByRecursion as All, list_all}
+use Rattle.std.specs.List.{AllByRecursion, list_all}
 use Rattle.items.specs.declared.Row.{Row}
 use Rattle.items.specs.declared.Piece.{Piece}
 use Rattle.items.specs.Limits.{settings_within, class_within}
@@ -66,7 +66,7 @@ pub record Fit (t : Tables) : Type 0 where
   pub waiting : length t.rows ≤ length t.waiting
   pub shipped : length t.rows ≤ length t.shipped
   pub pages : length t.rows ≤ length t.pages
-  pub shelves : All (λ s. length t.rows ≤ length s) t.shelves
+  pub shelves : AllByRecursion (λ s. length t.rows ≤ length s) t.shelves
   pub eight : length t.shelves ≡ 8
 
 -- the tables are those that the book was made over, as a list of calls left them; what is in use lies within them

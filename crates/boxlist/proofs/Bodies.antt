@@ -3,7 +3,7 @@ use Rattle.std.proofs.Common.{◌≡◌, ℕ, List, [], ◌∷◌, ◌++◌, map
 use Rattle.std.proofs.ByRecursion.{All-append, All-map}
 use Rattle.std.proofs.lemmas.Slice.Eq.{text_from_reads}
 use Rattle.std.proofs.lemmas.List.{append-nil, nil_from_length}
-use Rattle.std.specs.List.{flat_map, AllByRecursion as All}
+use Rattle.std.specs.List.{flat_map, AllByRecursion}
 use Rattle.std.specs.Option.{option_map}
 use Rattle.boxlist.specs.declared.cursor.Cursor.{Cursor}
 use Rattle.boxlist.specs.declared.marks.Mark.{Mark}
@@ -132,16 +132,16 @@ abbrev written : Values → List ℕ
 written q = flat_map field q.0 ++ fields q.1
 
 abbrev Fit : Mark → Values → Type 0
-Fit m q = ((length q.0 ≡ signs m) × All Small q.0) × ((length q.1 ≡ numbers m) × All small q.1)
+Fit m q = ((length q.0 ≡ signs m) × AllByRecursion Small q.0) × ((length q.1 ≡ numbers m) × AllByRecursion small q.1)
 
 to_record : (m : Mark) (q : Values) → Fit m q → ((mark_of (rebuilt m q.0 q.1) ≡ m) × Fits (rebuilt m q.0 q.1)) × (written q ≡ flat_map field (values_of (rebuilt m q.0 q.1)))
 to_record m q f =
     let same = rebuilt_values m q.0 q.1 f.0.0 f.1.0 in (
-      (sym (rebuilt_mark m q.0 q.1), subst (All Small) same (All-append Small q.0 (map pos q.1) f.0.1 (All-map Small pos q.1 f.1.1))),
+      (sym (rebuilt_mark m q.0 q.1), subst (AllByRecursion Small) same (All-append Small q.0 (map pos q.1) f.0.1 (All-map Small pos q.1 f.1.1))),
       sym (joined_append q.0 (map pos q.1)) ∙ ap (flat_map field) same,
     )
 
-split_all : (zs : List ℤ) (ns : List ℕ) → All Small (zs ++ map pos ns) → All Small zs × All small ns
+split_all : (zs : List ℤ) (ns : List ℕ) → AllByRecursion Small (zs ++ map pos ns) → AllByRecursion Small zs × AllByRecursion small ns
 split_all [] [] h = (tt, tt)
 split_all [] (n ∷ ns) h = (tt, (h.0, (split_all [] ns h.1).1))
 split_all (z ∷ zs) ns h = let r = split_all zs ns h.1 in ((h.0, r.0), r.1)
@@ -149,39 +149,39 @@ split_all (z ∷ zs) ns h = let r = split_all zs ns h.1 in ((h.0, r.0), r.1)
 of_record : (m : Mark) (r : Record) → (mark_of r ≡ m) × Fits r → (q : Values) × Fit m q × (rebuilt m q.0 q.1 ≡ r)
 of_record m r f =
     let k = made_of r in
-    let a = split_all (leads r) (counts r) (subst (All Small) k.values f.1) in
+    let a = split_all (leads r) (counts r) (subst (AllByRecursion Small) k.values f.1) in
     subst (λ y. (q : Values) × Fit y q × (rebuilt y q.0 q.1 ≡ r)) f.0 ((leads r, counts r), ((k.signs_are, a.0), (k.numbers_are, a.1)), k.whole)
 
 -- one signed value, as a list of such
-lead : (t v : Cursor) (o : Option ℤ) → Exactly field Small t v o → Exactly (flat_map field) (λ zs. (length zs ≡ 1) × All Small zs) t v (option_map (λ z. z ∷ []) o)
-lead t v = made field (flat_map field) Small _ (λ z. z ∷ []) (λ z fits. ((refl, (fits, tt)), sym (append-nil (field z)))) (λ zs fits. (get_or zs 0 (pos 0), (subst (All Small) (one zs fits.0) fits.1).0, sym (one zs fits.0))) t v
+lead : (t v : Cursor) (o : Option ℤ) → Exactly field Small t v o → Exactly (flat_map field) (λ zs. (length zs ≡ 1) × AllByRecursion Small zs) t v (option_map (λ z. z ∷ []) o)
+lead t v = made field (flat_map field) Small _ (λ z. z ∷ []) (λ z fits. ((refl, (fits, tt)), sym (append-nil (field z)))) (λ zs fits. (get_or zs 0 (pos 0), (subst (AllByRecursion Small) (one zs fits.0) fits.1).0, sym (one zs fits.0))) t v
 
 module _ (m : Mark) (t : Cursor) where
   abbrev Signs : Cursor → Option (List ℤ) → Type 0
-  Signs v o = Exactly (flat_map field) (λ zs. (length zs ≡ signs m) × All Small zs) t v o
+  Signs v o = Exactly (flat_map field) (λ zs. (length zs ≡ signs m) × AllByRecursion Small zs) t v o
 
   abbrev Counts : Cursor → Cursor → Option (List ℕ) → Type 0
-  Counts v u o = Exactly fields (λ ns. (length ns ≡ numbers m) × All small ns) v u o
+  Counts v u o = Exactly fields (λ ns. (length ns ≡ numbers m) × AllByRecursion small ns) v u o
 
   made_behind : (u : Cursor) (o : Option Values) → Exactly written (Fit m) t u o → Behind m t u (option_map (λ q. rebuilt m q.0 q.1) o)
   made_behind u o x = made written _ (Fit m) _ (λ q. rebuilt m q.0 q.1) (to_record m) (of_record m) t u o x
 
   both_behind : (v u : Cursor) (zs : List ℤ) → Signs v (Some zs) → (o : Option (List ℕ)) → Counts v u o → Exactly written (Fit m) t u (option_map (λ ns. (zs, ns)) o)
-  both_behind v u zs y o h = then (flat_map field) fields _ (λ _ ns. (length ns ≡ numbers m) × All small ns) (λ ns. ends_before (map pos ns)) t v u zs y o h
+  both_behind v u zs y o h = then (flat_map field) fields _ (λ _ ns. (length ns ≡ numbers m) × AllByRecursion small ns) (λ ns. ends_before (map pos ns)) t v u zs y o h
 
   values_are : (v u : Cursor) (zs : List ℤ) → Signs v (Some zs) → (o : Option (List ℕ)) → Counts v u o → Behind m t u (option_map (rebuilt m zs) o)
   values_are v u zs y None h = made_behind u None (both_behind v u zs y None h)
   values_are v u zs y (Some ns) h = made_behind u (Some (zs, ns)) (both_behind v u zs y (Some ns) h)
 
   pub plain : 0 ≡ signs m → (u : Cursor) (o : Option (List ℕ)) → Counts t u o → Behind m t u (option_map (rebuilt m []) o)
-  plain none u o h = values_are t u [] (subst (λ n. Exactly (flat_map field) (λ zs. (length zs ≡ n) × All Small zs) t t (Some [])) none (nothing (flat_map field) Small t refl)) o h
+  plain none u o h = values_are t u [] (subst (λ n. Exactly (flat_map field) (λ zs. (length zs ≡ n) × AllByRecursion Small zs) t t (Some [])) none (nothing (flat_map field) Small t refl)) o h
 
   module _ (one_sign : 1 ≡ signs m) (v : Cursor) where
     sign : (o : Option ℤ) → Exactly field Small t v o → Signs v (option_map (λ z. z ∷ []) o)
-    sign o y = subst (λ n. Exactly (flat_map field) (λ zs. (length zs ≡ n) × All Small zs) t v (option_map (λ z. z ∷ []) o)) one_sign (lead t v o y)
+    sign o y = subst (λ n. Exactly (flat_map field) (λ zs. (length zs ≡ n) × AllByRecursion Small zs) t v (option_map (λ z. z ∷ []) o)) one_sign (lead t v o y)
 
     pub no_lead : Exactly field Small t v None → Behind m t v None
-    no_lead y = made_behind v None (first_fails (flat_map field) fields _ (λ _ ns. (length ns ≡ numbers m) × All small ns) (λ ns. ends_before (map pos ns)) t v (sign None y))
+    no_lead y = made_behind v None (first_fails (flat_map field) fields _ (λ _ ns. (length ns ≡ numbers m) × AllByRecursion small ns) (λ ns. ends_before (map pos ns)) t v (sign None y))
 
     pub led : (u : Cursor) (z : ℤ) → Exactly field Small t v (Some z) → (o : Option (List ℕ)) → Counts v u o → Behind m t u (option_map (rebuilt m (z ∷ [])) o)
     led u z y o h = values_are v u (z ∷ []) (sign (Some z) y) o h

@@ -5,7 +5,7 @@ use Rattle.std.proofs.ByRecursion.{All-get_or, All-push}
 use Rattle.std.proofs.lemmas.List.{append_assoc, append_cancel_left, append-nil, drop_more, get_or_append_left, length-set, map_push, take_all, take_more, take_more_set}
 use Rattle.std.proofs.lemmas.Str.Parse.{digit_at}
 use Rattle.std.proofs.lemmas.Int.{ints}
-use Rattle.std.specs.List.{flat_map, AllByRecursion as All}
+use Rattle.std.specs.List.{flat_map, AllByRecursion}
 use Rattle.boxlist.specs.declared.cursor.Cursor.{Cursor}
 use Rattle.boxlist.specs.Parts.{ahead, Exactly, fields, NoDigit, Passed, small}
 use Rattle.boxlist.specs.Texts.{field, Small}
@@ -53,9 +53,9 @@ negative_is (suc n) (Some z) h = ap Some (omega (arith, ints, h.1))
 -- the first i fields have been read into ns, of the n that are wanted
 pub record Read (n : ℕ) (s t : Cursor) (i : ℕ) (ns : List ℕ) : Type 0 where
   pub long : length ns ≡ n
-  pub smalls : All small (take i ns)
+  pub smalls : AllByRecursion small (take i ns)
   pub passed : Passed (fields (take i ns)) s t
-  pub kept : (vs ys : List ℕ) → length vs ≡ n → All small vs → NoDigit ys → ahead s ≡ fields vs ++ ys → (take i vs ≡ take i ns) × (ahead t ≡ fields (drop i vs) ++ ys)
+  pub kept : (vs ys : List ℕ) → length vs ≡ n → AllByRecursion small vs → NoDigit ys → ahead s ≡ fields vs ++ ys → (take i vs ≡ take i ns) × (ahead t ≡ fields (drop i vs) ++ ys)
 
 pub ends_before : (zs : List ℤ) (ys : List ℕ) → NoDigit ys → NoDigit (flat_map field zs ++ ys)
 ends_before [] ys h = h
@@ -73,12 +73,12 @@ none n s ns long = record { long = long; smalls = tt; passed = passed_none s; ke
 
 module _ {n i : ℕ} {s t : Cursor} {ns : List ℕ} (u : Cursor) (h : Read n s t i ns) (l : i < n) where
   -- what the next field is, where numbers stand there
-  next_is : (o : Option ℕ) → Exactly (λ v. field (pos v)) small t u o → (vs ys : List ℕ) → length vs ≡ n → All small vs → NoDigit ys → ahead s ≡ fields vs ++ ys → (ahead t ≡ field (pos (get_or vs i 0)) ++ (fields (drop (i + 1) vs) ++ ys)) × (o ≡ Some (get_or vs i 0))
+  next_is : (o : Option ℕ) → Exactly (λ v. field (pos v)) small t u o → (vs ys : List ℕ) → length vs ≡ n → AllByRecursion small vs → NoDigit ys → ahead s ≡ fields vs ++ ys → (ahead t ≡ field (pos (get_or vs i 0)) ++ (fields (drop (i + 1) vs) ++ ys)) × (o ≡ Some (get_or vs i 0))
   next_is o x vs ys long a ends e =
       let here : ahead t ≡ field (pos (get_or vs i 0)) ++ (fields (drop (i + 1) vs) ++ ys) = (h.kept vs ys long a ends e).1 ∙ ap (λ r. fields r ++ ys) (drop_more vs i 0 (omega arith)) ∙ append_assoc (field (pos (get_or vs i 0))) (fields (drop (i + 1) vs)) ys in
       (here, x.finds (get_or vs i 0) (fields (drop (i + 1) vs) ++ ys) (All-get_or small vs i 0 (omega arith) a) (ends_before (map pos (drop (i + 1) vs)) ys ends) here)
 
-  pub fails : Exactly (λ v. field (pos v)) small t u None → Exactly fields (λ vs. (length vs ≡ n) × All small vs) s u None
+  pub fails : Exactly (λ v. field (pos v)) small t u None → Exactly fields (λ vs. (length vs ≡ n) × AllByRecursion small vs) s u None
   fails x = record { reads = tt; finds = λ vs ys fits ends e. absurd (none_some (next_is None x vs ys fits.0 fits.1 ends e).1) }
 
   pub another : (v : ℕ) → Exactly (λ v. field (pos v)) small t u (Some v) → Read n s u (i + 1) (set ns i v)
@@ -86,7 +86,7 @@ module _ {n i : ℕ} {s t : Cursor} {ns : List ℕ} (u : Cursor) (h : Read n s t
       let front : take (i + 1) (set ns i v) ≡ take i ns ++ v ∷ [] = take_more_set ns i v (omega (arith, h.long)) in
       record {
         long = length-set ns i v ∙ h.long;
-        smalls = subst (All small) (sym front) (All-push small (take i ns) v h.smalls x.reads.0);
+        smalls = subst (AllByRecursion small) (sym front) (All-push small (take i ns) v h.smalls x.reads.0);
         passed = subst (λ r. Passed r s u) (sym (ap fields front ∙ fields_push (take i ns) v)) (passed_both h.passed x.reads.1);
         kept = λ vs ys long a ends e.
             let q = next_is (Some v) x vs ys long a ends e in
@@ -94,10 +94,10 @@ module _ {n i : ℕ} {s t : Cursor} {ns : List ℕ} (u : Cursor) (h : Read n s t
             (take_more vs i 0 (omega arith) ∙ ap (λ r. r ++ get_or vs i 0 ∷ []) (h.kept vs ys long a ends e).0 ∙ ap (λ y. take i ns ++ y ∷ []) (sym same) ∙ sym front, append_cancel_left (field (pos v)) _ _ (sym x.reads.1.front ∙ q.0 ∙ ap (λ y. field (pos y) ++ (fields (drop (i + 1) vs) ++ ys)) (sym same)));
       }
 
-pub whole : {n : ℕ} {s t : Cursor} {ns : List ℕ} → Read n s t n ns → Exactly fields (λ vs. (length vs ≡ n) × All small vs) s t (Some ns)
+pub whole : {n : ℕ} {s t : Cursor} {ns : List ℕ} → Read n s t n ns → Exactly fields (λ vs. (length vs ≡ n) × AllByRecursion small vs) s t (Some ns)
 whole {n} {s} {t} {ns} h =
     let all = take_all n ns (omega (arith, h.long)) in
     record {
-      reads = ((h.long, subst (All small) all h.smalls), subst (λ r. Passed (fields r) s t) all h.passed);
+      reads = ((h.long, subst (AllByRecursion small) all h.smalls), subst (λ r. Passed (fields r) s t) all h.passed);
       finds = λ vs ys fits ends e. ap Some (sym all ∙ sym (h.kept vs ys fits.0 fits.1 ends e).0 ∙ take_all n vs (omega (arith, fits.0)));
     }

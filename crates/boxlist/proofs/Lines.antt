@@ -5,7 +5,7 @@ use Rattle.std.proofs.ByRecursion.{All-append}
 use Rattle.std.proofs.lemmas.List.{append_assoc, append_cancel_left}
 use Rattle.std.proofs.lemmas.Str.Parse.{digit_from_value}
 use Rattle.std.proofs.lemmas.Bool.{cases_Bool, cond-false, cond-true, ne_eqb}
-use Rattle.std.specs.List.{flat_map, AllByRecursion as All}
+use Rattle.std.specs.List.{flat_map, AllByRecursion}
 use Rattle.std.specs.Str.Parse.{AllDigits}
 use Rattle.std.specs.Fmt.{signed_decimal}
 use Rattle.boxlist.specs.declared.cursor.Cursor.{Cursor}
@@ -23,7 +23,7 @@ use Rattle.boxlist.proofs.Passes.{passed_both, within}
 abbrev Above : ℕ → Type 0
 Above b = 10 < b
 
-letters_above : (m : Mark) → All Above (letters_of m)
+letters_above : (m : Mark) → AllByRecursion Above (letters_of m)
 letters_above St = (omega arith, (omega arith, tt))
 letters_above Cl = (omega arith, (omega arith, tt))
 letters_above Bx = (omega arith, (omega arith, tt))
@@ -33,22 +33,22 @@ letters_above Pn = (omega arith, (omega arith, tt))
 letters_above Nt = (omega arith, (omega arith, tt))
 letters_above En = (omega arith, (omega arith, tt))
 
-digits_above : (ds : List ℕ) → AllDigits 10 ds → All Above ds
+digits_above : (ds : List ℕ) → AllDigits 10 ds → AllByRecursion Above ds
 digits_above [] h = tt
 digits_above (d ∷ ds) h = (omega (arith, digit_from_value d h.0), digits_above ds h.1)
 
-signed_above : (z : ℤ) → Small z → All Above (signed_decimal z)
+signed_above : (z : ℤ) → Small z → AllByRecursion Above (signed_decimal z)
 signed_above (pos n) h = digits_above (decimal n) (digits_decimal own n (omega arith))
 signed_above (negsuc n) h = (omega arith, digits_above (decimal (suc n)) (digits_decimal own (suc n) (omega arith)))
 
-fields_above : (zs : List ℤ) → All Small zs → All Above (flat_map field zs)
+fields_above : (zs : List ℤ) → AllByRecursion Small zs → AllByRecursion Above (flat_map field zs)
 fields_above [] h = tt
 fields_above (z ∷ zs) h = All-append Above (field z) (flat_map field zs) (omega arith, signed_above z h.0) (fields_above zs h.1)
 
-text_above : (r : Record) → Fits r → All Above (text_of r)
+text_above : (r : Record) → Fits r → AllByRecursion Above (text_of r)
 text_above r h = All-append Above (letters_of (mark_of r)) (flat_map field (values_of r)) (letters_above (mark_of r)) (fields_above (values_of r) h)
 
-ends_at : (bs ys : List ℕ) → All Above bs → line_of (bs ++ 10 ∷ ys) ≡ bs ++ 10 ∷ []
+ends_at : (bs ys : List ℕ) → AllByRecursion Above bs → line_of (bs ++ 10 ∷ ys) ≡ bs ++ 10 ∷ []
 ends_at [] ys h = refl
 ends_at (b ∷ bs) ys h = ap (λ l. b ∷ l) (cond-false (eqb b 10) [] (line_of (bs ++ 10 ∷ ys)) (ne_eqb b 10 (λ e. omega (arith, h.0))) ∙ ends_at bs ys h.1)
 

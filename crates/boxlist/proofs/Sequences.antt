@@ -2,7 +2,7 @@
 use Rattle.std.proofs.Common.{◌≡◌, ℕ, List, [], ◌++◌, length, IfSome, Some, None, Option, sym, refl, ap, ◌∙◌, subst}
 use Rattle.std.proofs.lemmas.List.{append_assoc, append_cancel_left, nil_from_length}
 use Rattle.std.specs.Option.{option_map}
-use Rattle.std.specs.List.{AllByRecursion as All}
+use Rattle.std.specs.List.{AllByRecursion}
 use Rattle.boxlist.specs.declared.cursor.Cursor.{Cursor}
 use Rattle.boxlist.specs.Parts.{ahead, Exactly, NoDigit, Passed}
 use Rattle.boxlist.proofs.Fields.{none_some, some_same}
@@ -53,7 +53,7 @@ module _ {A B : Type 0} (write : A → List ℕ) (write' : B → List ℕ) (Fit 
   }
 
 -- no elements are wanted
-pub nothing : {A : Type 0} (write : List A → List ℕ) (P : A → Type 0) (s : Cursor) → write [] ≡ [] → Exactly write (λ xs. (length xs ≡ 0) × All P xs) s s (Some [])
+pub nothing : {A : Type 0} (write : List A → List ℕ) (P : A → Type 0) (s : Cursor) → write [] ≡ [] → Exactly write (λ xs. (length xs ≡ 0) × AllByRecursion P xs) s s (Some [])
 nothing write P s e = record {
   reads = ((refl, tt), subst (λ l. Passed l s s) (sym e) (passed_none s));
   finds = λ xs ys fits ends f. ap Some (sym (nil_from_length xs fits.0));

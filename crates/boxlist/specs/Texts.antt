@@ -1,6 +1,6 @@
 -- A record as the box list writes it, without the byte 10 that ends its line.
 use Rattle.std.specs.Prelude.{ℕ, ◌≤◌, List, [], ◌∷◌, ◌++◌, ℤ, pos, unsigned_abs}
-use Rattle.std.specs.List.{flat_map, AllByRecursion as All}
+use Rattle.std.specs.List.{flat_map, AllByRecursion}
 use Rattle.std.specs.Fmt.{signed_decimal}
 use Rattle.items.specs.Items.{most}
 use Rattle.boxlist.specs.declared.marks.Mark.{Mark}
@@ -41,4 +41,4 @@ abbrev pub Small : ℤ → Type 0
 Small z = unsigned_abs z ≤ most
 
 abbrev pub Fits : Record → Type 0
-Fits r = All Small (values_of r)
+Fits r = AllByRecursion Small (values_of r)

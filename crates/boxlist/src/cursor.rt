@@ -1,6 +1,6 @@
 // Where reading stands in a text, and how the parts of a record are read there.
 ghost use Rattle.std.specs.Prelude.{◌≡◌, ℕ, ◌+◌, ◌<◌, true, false, List, [], ◌∷◌, length, pos, ◌-ℤ◌, decimal, Decides, MatchOption};
-ghost use Rattle.std.specs.List.{AllByRecursion as All};
+ghost use Rattle.std.specs.List.{AllByRecursion};
 ghost use Rattle.boxlist.specs.Marks.{letters_of};
 ghost use Rattle.boxlist.specs.Parts.{ahead, fields, LeadingZero, NoDigit, Passed, Exactly, small};
 ghost use Rattle.boxlist.specs.Texts.{field, text_of, Small, Fits};
@@ -69,7 +69,7 @@ impl<'a> Cursor<'a> {
 
     // As many fields as are asked for.
     fn fields<const N: usize>(&mut self) -> Option<[u32; N]>
-        ensures { Exactly fields (λ ns. (length ns ≡ N) × All small ns) self.old self.new result }
+        ensures { Exactly fields (λ ns. (length ns ≡ N) × AllByRecursion small ns) self.old self.new result }
     {
         let mut numbers = [0; N];
         for i in 0..N {

@@ -1,7 +1,7 @@
 -- What a feed that is not refused says of the item, or of the note and its content.
 use Rattle.std.proofs.Common.{◌≡◌, ℕ, zero, suc, ◌+◌, ◌<◌, ◌≤◌, Bool, true, false, not, eqb, ltb, List, [], ◌∷◌, length, get_or, Some, None, Option, sym, refl, ◌∙◌, arith}
 use Rattle.std.specs.Option.{option_or}
-use Rattle.std.specs.List.{AllByRecursion as All}
+use Rattle.std.specs.List.{AllByRecursion}
 use Rattle.std.proofs.lemmas.Bool.{ltb-false, not-false, false≢true}
 use Rattle.items.specs.declared.Item.{Item}
 use Rattle.items.specs.declared.Item.TheVariants.{Box, Glue, Kern, Penalty, Note}
@@ -19,8 +19,8 @@ use Rattle.calls.specs.Feeding.{content_for, counted, refused_if, note_refusal, 
 -- an item of text alone, or a note of one of eight classes with some content and no note in it
 pub record Feedable (t : Item) (ts : List Item) : Type 0 where
   pub value : within_limits t ≡ true
-  pub values : All (λ u. within_limits u ≡ true) ts
-  pub words : All (λ u. is_note u ≡ false) ts
+  pub values : AllByRecursion (λ u. within_limits u ≡ true) ts
+  pub words : AllByRecursion (λ u. is_note u ≡ false) ts
   pub count : (c k : ℕ) → t ≡ Note c k → length ts ≡ k
   pub kind : (c k : ℕ) → t ≡ Note c k → c < 8
   pub alone : is_note t ≡ false → ts ≡ []

@@ -2,7 +2,7 @@
 use Rattle.std.proofs.Common.{◌≡◌, ℕ, ◌≤◌, Bool, true, false, cond, not, ◌&&◌, ◌||◌, List, [], ◌∷◌, map, length, ℤ, pos, ◌≤ℤ◌, ◌<ℤ◌, Some, None, Option, refl, ap, ◌∙◌, arith}
 use lib.Signed.{le_z}
 use borrow.Author.Differences.{ints}
-use Rattle.std.specs.List.{AllByRecursion as All}
+use Rattle.std.specs.List.{AllByRecursion}
 use Rattle.std.proofs.lemmas.Bool.{and_right}
 use Rattle.items.specs.declared.Item.{Item}
 use Rattle.items.specs.declared.Item.TheVariants.{Glue}
@@ -62,7 +62,7 @@ module _ (b : Book) (F : List Item) (held : List ℕ) (i : Inv F (is_open b) hel
           let z : ◌≡◌ {A = ℕ} 0 1 = cc in absurd (omega arith)
       go (x ∷ xs) f = rw f (omega arith)
 
-  first_of : (page : List ℕ) → All (λ x. 1 ≤ x) page → (place : ℕ) (cost goal : ℤ) →
+  first_of : (page : List ℕ) → AllByRecursion (λ x. 1 ≤ x) page → (place : ℕ) (cost goal : ℤ) →
       FirstNote b.rows page
       (record { place = place; cost = cost; goal = goal; last = map (λ k. k.last) (so_far (ground_of b) b.rows page).classes })
   first_of [] a place cost goal = tt

@@ -1,6 +1,6 @@
 -- The item table after a feed: it is well formed, and its text kept is what it was and the new.
 use Rattle.std.proofs.Common.{◌≡◌, ℕ, zero, suc, ◌+◌, ◌-◌, ◌<◌, ◌≤◌, Bool, true, false, cond, not, ◌&&◌, eqb, ◌⊎◌, List, [], ◌∷◌, ◌++◌, map, length, get_or, filter, sym, refl, ap, ◌∙◌, ap₂, inl, inr, arith}
-use Rattle.std.specs.List.{AllByRecursion as All}
+use Rattle.std.specs.List.{AllByRecursion}
 use Rattle.std.proofs.lemmas.List.{length-append, length-map, get_or_append_left, get_or_at, get_or-append-add, get_or_past, get_or-map}
 use Rattle.std.proofs.lemmas.List.Elements.{filter-append}
 use Rattle.std.proofs.ByRecursion.{All-weaker, all_kept_by, All-get_or}
@@ -40,7 +40,7 @@ module _ (R : List Row) (t : Item) (ts : List Item) (ok : Feedable t ts) where
   fed_here = get_or_at R (fed_row t 0) (map (λ u. fed_row u number) ts) blank (number - 1) (omega arith)
 
   -- what holds of the content holds of the item of a row after the note
-  fed_later : (P : Item → Type 0) → All P ts → (y : ℕ) → number < y → y ≤ number + length ts → (u : Item) × (row_at Q y ≡ fed_row u number) × P u
+  fed_later : (P : Item → Type 0) → AllByRecursion P ts → (y : ℕ) → number < y → y ≤ number + length ts → (u : Item) × (row_at Q y ≡ fed_row u number) × P u
   fed_later P w y h k =
       let j = y - (number + 1) in
       let d : Item = Box 0 0 in (
@@ -80,14 +80,14 @@ module _ (R : List Row) (t : Item) (ts : List Item) (ok : Feedable t ts) where
   past_word y h = ap (λ r. is_note r.item) (fed_past y h)
 
   -- of the numbers of the content
-  later_all : All (λ y. (number < y) × (y ≤ number + length ts)) (span (number + 1) (length ts))
+  later_all : AllByRecursion (λ y. (number < y) × (y ≤ number + length ts)) (span (number + 1) (length ts))
   later_all =
       all_both (λ y. number < y) (λ y. y ≤ number + length ts) (span (number + 1) (length ts))
       (All-weaker (λ y. number + 1 ≤ y) (λ y. number < y) (λ y h. omega arith) (span (number + 1) (length ts))
       (span_from (number + 1) (number + 1) (length ts) (omega arith)))
       (span_to (number + length ts) (number + 1) (length ts) (omega arith))
 
-  later_each : (P : ℕ → Type 0) → ((y : ℕ) → number < y → y ≤ number + length ts → P y) → All P (span (number + 1) (length ts))
+  later_each : (P : ℕ → Type 0) → ((y : ℕ) → number < y → y ≤ number + length ts → P y) → AllByRecursion P (span (number + 1) (length ts))
   later_each P f = All-weaker (λ y. (number < y) × (y ≤ number + length ts)) P (λ y h. f y h.0 h.1) (span (number + 1) (length ts)) later_all
 
   module _ (w : WellFormed R) where
@@ -168,7 +168,7 @@ module _ (R : List Row) (t : Item) (ts : List Item) (ok : Feedable t ts) where
       new : List ℕ
       new = number ∷ span (number + 1) (length ts)
 
-      inside_old : All (Inside R) (span 1 (length R))
+      inside_old : AllByRecursion (Inside R) (span 1 (length R))
       inside_old =
           all_both (λ y. 1 ≤ y) (λ y. y ≤ length R) (span 1 (length R)) (span_from 1 1 (length R) (omega arith))
           (span_to (length R) 1 (length R) (omega arith))

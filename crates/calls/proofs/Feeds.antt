@@ -1,6 +1,6 @@
 -- A feed that is not refused keeps the invariant.
 use Rattle.std.proofs.Common.{◌≡◌, ℕ, zero, suc, ◌+◌, ◌<◌, ◌≤◌, Bool, true, false, cond, not, ◌&&◌, eqb, List, [], ◌∷◌, ◌++◌, map, length, None, filter, sym, refl, ap, ◌∙◌, subst, ap₂, append_assoc, arith}
-use Rattle.std.specs.List.{AllByRecursion as All}
+use Rattle.std.specs.List.{AllByRecursion}
 use Rattle.std.proofs.lemmas.List.{append-nil, map-append}
 use Rattle.std.proofs.lemmas.List.Elements.{filter-append}
 use Rattle.std.proofs.ByRecursion.{All-weaker, All-append, kept_by_passes}
@@ -29,7 +29,7 @@ use Rattle.calls.proofs.FedTable.{fed_table, fed_size, fed_old, fed_here, spot, 
 use Rattle.calls.proofs.NoteRows.{note_is, word_owes}
 
 -- what shipped is in the table
-shipped_inside : {F : List Item} {s : State} {held : List ℕ} → Inv F s held → All (Inside (book_of s).rows) (book_of s).shipped
+shipped_inside : {F : List Item} {s : State} {held : List ℕ} → Inv F s held → AllByRecursion (Inside (book_of s).rows) (book_of s).shipped
 shipped_inside {F} {s} {held} i = all_from_times (Inside R) b.shipped (λ y k. go y k (is_body R y) refl)
   where
     b : Book
@@ -42,14 +42,14 @@ shipped_inside {F} {s} {held} i = all_from_times (Inside R) b.shipped (λ y k. g
     go y k true e =
         all_times (Inside R) y (body R b.shipped)
         (all_left (Inside R) (body R b.shipped) (held ++ filter (is_word R) (waiting_in s))
-        (subst (All (Inside R)) (sym i.bodies) (kept_inside (is_body R) R)))
+        (subst (AllByRecursion (Inside R)) (sym i.bodies) (kept_inside (is_body R) R)))
         (let number = times_kept y (is_body R) e b.shipped in omega arith)
     go y k false e =
         let c = note_class (item_at R (note_at R y)) in
         let f : is_text R c y ≡ true = ap₂ (λ p q. not p && q) e (eq-eqb c c refl) in
         all_times (Inside R) y (text_of R c b.shipped)
         (all_left (Inside R) (text_of R c b.shipped) (shelf b c ++ parts R c (waiting_in s))
-        (subst (All (Inside R)) (sym (i.classes c)) (kept_inside (is_text R c) R)))
+        (subst (AllByRecursion (Inside R)) (sym (i.classes c)) (kept_inside (is_text R c) R)))
         (let number = times_kept y (is_text R c) f b.shipped in omega arith)
 
 module _ (b : Book) (F : List Item) (held : List ℕ) (i : Inv F (is_open b) held) (x : Item) (cs : List Item)
@@ -81,7 +81,7 @@ module _ (b : Book) (F : List Item) (held : List ℕ) (i : Inv F (is_open b) hel
   waits_is : waits ≡ waited ++ number ∷ []
   waits_is = sym (append_assoc b.page b.contributions (number ∷ []))
 
-  inside_waited : All (Inside R) waited
+  inside_waited : AllByRecursion (Inside R) waited
   inside_waited = all_right (Inside R) held waited i.inside
 
   old : (y : ℕ) → Inside R y → row_at Q y ≡ row_at R y
@@ -177,23 +177,23 @@ module _ (b : Book) (F : List Item) (held : List ℕ) (i : Inv F (is_open b) hel
       (append-nil (owed_for Q number) ∙ owed_new) in
       ap (times y) a ∙ times_append y (owes R waited) (cond (is_note t) (span (number + 1) (length ts)) (number ∷ []))
 
-  wider : (xs : List ℕ) → All (Inside R) xs → All (Inside Q) xs
+  wider : (xs : List ℕ) → AllByRecursion (Inside R) xs → AllByRecursion (Inside Q) xs
   wider xs h = All-weaker (Inside R) (Inside Q) (λ y k. (k.0, let z = size in let q = k.1 in omega arith)) xs h
 
-  inside_then : All (Inside Q) (held ++ waits)
+  inside_then : AllByRecursion (Inside Q) (held ++ waits)
   inside_then =
-      subst (λ l. All (Inside Q) (held ++ l)) (sym waits_is)
+      subst (λ l. AllByRecursion (Inside Q) (held ++ l)) (sym waits_is)
       (All-append (Inside Q) held (waited ++ number ∷ []) (wider held (all_left (Inside R) held waited i.inside))
       (All-append (Inside Q) waited (number ∷ []) (wider waited inside_waited) ((omega arith, let z = size in omega arith), tt)))
 
-  left_then : All (HasLeft Q) (held ++ waits)
+  left_then : AllByRecursion (HasLeft Q) (held ++ waits)
   left_then =
-      subst (λ l. All (HasLeft Q) (held ++ l)) (sym waits_is)
+      subst (λ l. AllByRecursion (HasLeft Q) (held ++ l)) (sym waits_is)
       (All-append (HasLeft Q) held (waited ++ number ∷ []) (longer held (all_left (HasLeft R) held waited i.left) (all_left (Inside R) held waited i.inside))
       (All-append (HasLeft Q) waited (number ∷ []) (longer waited (all_right (HasLeft R) held waited i.left) inside_waited) (newest, tt)))
     where
-      longer : (xs : List ℕ) → All (HasLeft b.rows) xs → All (Inside b.rows) xs →
-          All (HasLeft (fed_table b.rows (counted x cs) (content_for x cs))) xs
+      longer : (xs : List ℕ) → AllByRecursion (HasLeft b.rows) xs → AllByRecursion (Inside b.rows) xs →
+          AllByRecursion (HasLeft (fed_table b.rows (counted x cs) (content_for x cs))) xs
       longer xs h k =
           All-weaker (λ y. HasLeft R y × Inside R y) (HasLeft Q)
           (λ y p f.

@@ -1,6 +1,6 @@
 -- The invariant implies each thing that is found wherever calls stop, and that no more is to come than was fed.
 use Rattle.std.proofs.Common.{◌≡◌, ℕ, ◌+◌, ◌<◌, ◌≤◌, Bool, true, false, cond, not, ◌&&◌, eqb, List, [], ◌∷◌, ◌++◌, length, filter, sym, refl, ap, ◌∙◌, subst, ap₂, arith, length-append}
-use Rattle.std.specs.List.{flat_map, AllByRecursion as All}
+use Rattle.std.specs.List.{flat_map, AllByRecursion}
 use Rattle.std.proofs.lemmas.List.Elements.{filter-append}
 use Rattle.std.proofs.ByRecursion.{kept_by_passes, all_kept_by}
 use Rattle.std.proofs.lemmas.Bool.{eq-eqb, ne_eqb, cond-true, cond-false}
@@ -29,30 +29,30 @@ module _ (F : List Item) (s : State) (held : List ℕ) (i : Inv F s held) where
   abbrev waits : List ℕ
   waits = waiting_in s
 
-  inside_waits : All (Inside R) waits
+  inside_waits : AllByRecursion (Inside R) waits
   inside_waits = all_right (Inside R) held waits i.inside
 
-  bodies_all : All (λ y. is_body R y ≡ true) (held ++ filter (is_word R) waits)
+  bodies_all : AllByRecursion (λ y. is_body R y ≡ true) (held ++ filter (is_word R) waits)
   bodies_all =
       all_right (λ y. is_body R y ≡ true) (body R b.shipped) (held ++ filter (is_word R) waits)
-      (subst (All (λ y. is_body R y ≡ true)) (sym i.bodies) (kept_by_passes (is_body R) (kept_in R)))
+      (subst (AllByRecursion (λ y. is_body R y ≡ true)) (sym i.bodies) (kept_by_passes (is_body R) (kept_in R)))
 
-  shelf_all : (e : ℕ) → All (λ y. is_text R e y ≡ true) (shelf b e)
+  shelf_all : (e : ℕ) → AllByRecursion (λ y. is_text R e y ≡ true) (shelf b e)
   shelf_all e =
       all_left (λ y. is_text R e y ≡ true) (shelf b e) (parts R e waits)
       (all_right (λ y. is_text R e y ≡ true) (text_of R e b.shipped) (shelf b e ++ parts R e waits)
-      (subst (All (λ y. is_text R e y ≡ true)) (sym (i.classes e)) (kept_by_passes (is_text R e) (kept_in R))))
+      (subst (AllByRecursion (λ y. is_text R e y ≡ true)) (sym (i.classes e)) (kept_by_passes (is_text R e) (kept_in R))))
 
   Entry : ℕ → Type 0
   Entry x = Inside R x × (is_word R x ≡ true → is_body R x ≡ true)
 
-  entries : All Entry waits
+  entries : AllByRecursion Entry waits
   unfolding Entry
   entries = all_both (Inside R) (λ x. is_word R x ≡ true → is_body R x ≡ true) waits inside_waits
       (all_from_times (λ x. is_word R x ≡ true → is_body R x ≡ true) waits (λ x k e. all_times (λ y. is_body R y ≡ true) x (filter (is_word R) waits)
       (all_right (λ y. is_body R y ≡ true) held (filter (is_word R) waits) bodies_all) (let m = times_kept x (is_word R) e waits in omega arith)))
 
-  body_owes : (xs : List ℕ) → All Entry xs → body R (owes R xs) ≡ filter (is_word R) xs
+  body_owes : (xs : List ℕ) → AllByRecursion Entry xs → body R (owes R xs) ≡ filter (is_word R) xs
   unfolding Entry
   body_owes [] e = refl
   body_owes (x ∷ xs) e =
@@ -65,13 +65,13 @@ module _ (F : List Item) (s : State) (held : List ℕ) (i : Inv F s held) where
           (kept_by_none (is_body R) (remaining R x) (left_body R i.formed x 0 0 n.0 n.1 e.0.0 n.2))
       go false f = ap (λ l. l ++ filter (is_word R) xs) (cond-true (is_body R x) (x ∷ []) [] (e.0.1 (ap not f)))
 
-  text_owes : (c : ℕ) (xs : List ℕ) → All Entry xs → text_of R c (owes R xs) ≡ parts R c xs
+  text_owes : (c : ℕ) (xs : List ℕ) → AllByRecursion Entry xs → text_of R c (owes R xs) ≡ parts R c xs
   unfolding Entry
   text_owes c [] e = refl
   text_owes c (x ∷ xs) e =
       filter-append (is_text R c) (owed_for R x) (owes R xs) ∙ ap₂ (λ l m. l ++ m) (go (is_note (item_at R x)) refl) (text_owes c xs e.1)
     where
-      pick : (t : Bool) (l : List ℕ) → All (λ y. is_text R c y ≡ t) l → text_of R c l ≡ cond t l []
+      pick : (t : Bool) (l : List ℕ) → AllByRecursion (λ y. is_text R c y ≡ t) l → text_of R c l ≡ cond t l []
       pick true l h = kept_by_all (is_text R c) l h
       pick false l h = kept_by_none (is_text R c) l h
 

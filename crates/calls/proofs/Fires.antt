@@ -1,6 +1,6 @@
 -- A firing keeps the invariant. No more is to come after it than before, and less where nothing came out.
 use Rattle.std.proofs.Common.{◌≡◌, ℕ, zero, suc, ◌+◌, ◌<◌, ◌≤◌, min, Bool, true, false, cond, not, eqb, ◌⊎◌, List, [], ◌∷◌, ◌++◌, length, get_or, take, drop, replicate, ℤ, filter, sym, refl, ap, ◌∙◌, subst, ap₂, inl, inr, append_assoc, arith}
-use Rattle.std.specs.List.{flat_map, AllByRecursion as All}
+use Rattle.std.specs.List.{flat_map, AllByRecursion}
 use Rattle.std.proofs.lemmas.List.{append-nil, take-append-drop, get_or-replicate, get_or_past}
 use Rattle.std.proofs.lemmas.List.Elements.{filter-append}
 use Rattle.std.proofs.ByRecursion.{All-weaker, kept_by_passes}
@@ -29,7 +29,7 @@ use Rattle.calls.proofs.Sorts.{Sort, Onto, Brings, sort_all, first_brings}
 use Rattle.calls.proofs.NoteRows.{part_none}
 
 -- words have no part of a class's text
-pub parts_words : (R : List Row) (c : ℕ) (xs : List ℕ) → All (λ x. is_note (item_at R x) ≡ false) xs → parts R c xs ≡ []
+pub parts_words : (R : List Row) (c : ℕ) (xs : List ℕ) → AllByRecursion (λ x. is_note (item_at R x) ≡ false) xs → parts R c xs ≡ []
 parts_words R c xs h =
     joined_none (λ x. part R c x) xs (All-weaker (λ x. is_note (item_at R x) ≡ false) (λ x. part R c x ≡ []) (λ x e. part_none R c x e) xs h)
 
@@ -92,7 +92,7 @@ module _ (b : Book) (at : PageBreak) (F : List Item) (held : List ℕ) (i : Inv 
       let a = times_append y held (bod ++ (notes ++ rest)) in
       let c = times_append y held (b.page ++ b.contributions) in let d = same_times y in omega arith
 
-  words_before : All (λ x. is_note (item_at R x) ≡ false) bod
+  words_before : AllByRecursion (λ x. is_note (item_at R x) ≡ false) bod
   words_before =
       All-weaker (λ x. not (is_note (item_at R x)) ≡ true) (λ x. is_note (item_at R x) ≡ false) (λ x e. not-true (is_note (item_at R x)) e) bod
       (kept_by_passes (λ x. not (is_note (item_at R x))) before)
@@ -144,7 +144,7 @@ module _ (b : Book) (at : PageBreak) (F : List Item) (held : List ℕ) (i : Inv 
   first_sort : Sort b rest bod pen F held (on_page b) sound at.last (unsorted b) notes
   first_sort = record { inv = start; eight = refl; like = alike_self R; fresh = same notes; order = λ c h. tt }
     where
-      same : (xs : List ℕ) → All (λ x. spent_at R x ≡ spent_at R x) xs
+      same : (xs : List ℕ) → AllByRecursion (λ x. spent_at R x ≡ spent_at R x) xs
       same [] = tt
       same (x ∷ xs) = (refl, same xs)
 
@@ -236,8 +236,8 @@ inv_stamp b rest bod p R sh wt F held n g xs i = record {
   shelves = i.shelves;
   formed = formed_alike like i.formed;
   ready = record {
-    notes = subst (λ (it : ℕ → Item). All (λ y. is_note (it y) ≡ true) wt) (sym like.item) i.ready.notes;
-    words = subst (λ (it : ℕ → Item). All (λ y. is_note (it y) ≡ false) bod) (sym like.item) i.ready.words;
+    notes = subst (λ (it : ℕ → Item). AllByRecursion (λ y. is_note (it y) ≡ true) wt) (sym like.item) i.ready.notes;
+    words = subst (λ (it : ℕ → Item). AllByRecursion (λ y. is_note (it y) ≡ false) bod) (sym like.item) i.ready.words;
     last = λ e. absurd (false≢true e);
     clear = refl;
   };

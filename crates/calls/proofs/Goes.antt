@@ -1,6 +1,6 @@
 -- One note sorted at a firing keeps the invariant, and what goes to its shelf or is dropped is owed no more.
 use Rattle.std.proofs.Common.{◌≡◌, ℕ, suc, ◌+◌, ◌<◌, ◌≤◌, Bool, true, false, cond, eqb, List, [], ◌∷◌, ◌++◌, length, get_or, ℤ, None, filter, sym, refl, ap, ◌∙◌, subst, ap₂, append_assoc, arith}
-use Rattle.std.specs.List.{flat_map, AllByRecursion as All}
+use Rattle.std.specs.List.{flat_map, AllByRecursion}
 use Rattle.std.proofs.ByRecursion.{All-weaker, All-append}
 use Rattle.std.proofs.lemmas.Bool.{eqb-true, eqb-false, eq-eqb, cond-true, cond-false, false≢true}
 use Rattle.items.specs.declared.Item.{Item}
@@ -46,8 +46,8 @@ dropped_there R y h e = let m = times_kept y (λ z. is_dropped (place_at R z)) (
 
 module _ (b : Book) (rest bod : List ℕ) (p : ℤ) (R : List Row) (sh : List (List Piece)) (A B : List ℕ) (x n d c k : ℕ) (F : List Item) (held : List ℕ)
     (is : item_at R x ≡ Note c k) (i : Inv F (mid b rest bod p R sh (A ++ x ∷ B)) held)
-    (first : All (λ u. eqb (note_class (item_at R u)) c ≡ false) A) (few : n ≤ length (remaining R x))
-    (may : All (λ y. is_discardable (item_at R y) ≡ true) (dropped_part R x n d)) where
+    (first : AllByRecursion (λ u. eqb (note_class (item_at R u)) c ≡ false) A) (few : n ≤ length (remaining R x))
+    (may : AllByRecursion (λ y. is_discardable (item_at R y) ≡ true) (dropped_part R x n d)) where
   U : List ℕ
   U = bod ++ A
 
@@ -62,16 +62,16 @@ module _ (b : Book) (rest bod : List ℕ) (p : ℤ) (R : List Row) (sh : List (L
   unfolding U V
   waiting_after = simp append_assoc
 
-  all_inside : All (Inside R) (U ++ (x ∷ V))
-  all_inside = subst (All (Inside R)) waiting_is (all_right (Inside R) held (bod ++ ((A ++ x ∷ B) ++ rest)) i.inside)
+  all_inside : AllByRecursion (Inside R) (U ++ (x ∷ V))
+  all_inside = subst (AllByRecursion (Inside R)) waiting_is (all_right (Inside R) held (bod ++ ((A ++ x ∷ B) ++ rest)) i.inside)
 
   x_inside : Inside R x
   x_inside = (all_right (Inside R) U (x ∷ V) all_inside).0
 
-  far_u : All (λ y. 1 ≤ y) U
+  far_u : AllByRecursion (λ y. 1 ≤ y) U
   far_u = from_one R U (all_left (Inside R) U (x ∷ V) all_inside)
 
-  far_v : All (λ y. 1 ≤ y) V
+  far_v : AllByRecursion (λ y. 1 ≤ y) V
   far_v = from_one R V (all_right (Inside R) U (x ∷ V) all_inside).1
 
   alone : times x U + suc (times x V) ≤ 1
@@ -89,24 +89,24 @@ module _ (b : Book) (rest bod : List ℕ) (p : ℤ) (R : List Row) (sh : List (L
   absent_v : times x V ≡ 0
   absent_v = let a = alone in omega arith
 
-  first_u : All (λ u. part R c u ≡ []) U
+  first_u : AllByRecursion (λ u. part R c u ≡ []) U
   unfolding U
   first_u = All-append (λ u. part R c u ≡ []) bod A
       (All-weaker (λ u. is_note (item_at R u) ≡ false) (λ u. part R c u ≡ []) (λ u e. part_none R c u e) bod i.ready.words)
       (All-weaker (λ u. eqb (note_class (item_at R u)) c ≡ false) (λ u. part R c u ≡ [])
       (λ u e. cond-false (eqb (note_class (item_at R u)) c) (remaining R u) [] e) A first)
 
-  there : All (λ y. gone R y ≡ false) (remaining R x)
+  there : AllByRecursion (λ y. gone R y ≡ false) (remaining R x)
   there =
       let P : ℕ → Type 0 = λ y. gone R y ≡ false in
-      let a : All P (text_of R c b.shipped ++ (shelf_items (get_or sh c []) ++ parts R c (bod ++ ((A ++ x ∷ B) ++ rest)))) =
-      subst (All P) (sym (i.classes c)) (kept_there (is_text R c) R) in
-      let e : All P (parts R c (bod ++ ((A ++ x ∷ B) ++ rest))) =
+      let a : AllByRecursion P (text_of R c b.shipped ++ (shelf_items (get_or sh c []) ++ parts R c (bod ++ ((A ++ x ∷ B) ++ rest)))) =
+      subst (AllByRecursion P) (sym (i.classes c)) (kept_there (is_text R c) R) in
+      let e : AllByRecursion P (parts R c (bod ++ ((A ++ x ∷ B) ++ rest))) =
       all_right P (shelf_items (get_or sh c [])) (parts R c (bod ++ ((A ++ x ∷ B) ++ rest)))
       (all_right P (text_of R c b.shipped) (shelf_items (get_or sh c []) ++ parts R c (bod ++ ((A ++ x ∷ B) ++ rest))) a) in
-      let f : All P (parts R c U ++ (part R c x ++ parts R c V)) = subst (All P) (ap (parts R c) waiting_is ∙ parts_append R c U (x ∷ V)) e in
-      let g : All P (part R c x) = all_left P (part R c x) (parts R c V) (all_right P (parts R c U) (part R c x ++ parts R c V) f) in
-      subst (All P) (ap (λ t. cond (eqb (note_class t) c) (remaining R x) []) is ∙ cond-true (eqb c c) (remaining R x) [] (eq-eqb c c refl)) g
+      let f : AllByRecursion P (parts R c U ++ (part R c x ++ parts R c V)) = subst (AllByRecursion P) (ap (parts R c) waiting_is ∙ parts_append R c U (x ∷ V)) e in
+      let g : AllByRecursion P (part R c x) = all_left P (part R c x) (parts R c V) (all_right P (parts R c U) (part R c x ++ parts R c V) f) in
+      subst (AllByRecursion P) (ap (λ t. cond (eqb (note_class t) c) (remaining R x) []) is ∙ cond-true (eqb c c) (remaining R x) [] (eq-eqb c c refl)) g
 
   room : c < length sh
   room = let a = i.formed.classes x c k x_inside.0 is in let e : length sh ≡ 8 = i.shelves in omega arith
@@ -151,7 +151,7 @@ module _ (b : Book) (rest bod : List ℕ) (p : ℤ) (R : List Row) (sh : List (L
 
   ready_after : Ready state_after
   ready_after = record {
-    notes = subst (λ (it : ℕ → Item). All (λ y. is_note (it y) ≡ true) (A ++ (still R x n d ++ B))) (sym like.item)
+    notes = subst (λ (it : ℕ → Item). AllByRecursion (λ y. is_note (it y) ≡ true) (A ++ (still R x n d ++ B))) (sym like.item)
         (all_fewer (λ y. is_note (item_at R y) ≡ true) (A ++ x ∷ B) (A ++ (still R x n d ++ B)) (λ y.
         let a = still_few R i.formed x n d c k x_inside is y in
         let m = times_append y A (x ∷ B) in
@@ -159,17 +159,17 @@ module _ (b : Book) (rest bod : List ℕ) (p : ℤ) (R : List Row) (sh : List (L
         let q = times_append y (still R x n d) B in
         let r = times_append y (x ∷ []) B in
         omega arith) i.ready.notes);
-    words = subst (λ (it : ℕ → Item). All (λ y. is_note (it y) ≡ false) bod) (sym like.item) i.ready.words;
+    words = subst (λ (it : ℕ → Item). AllByRecursion (λ y. is_note (it y) ≡ false) bod) (sym like.item) i.ready.words;
     last = λ e. absurd (false≢true e);
     clear = refl;
   }
 
-  inside_after : All (Inside rows_after) (held ++ waiting_in state_after)
+  inside_after : AllByRecursion (Inside rows_after) (held ++ waiting_in state_after)
   inside_after =
-      subst (λ m. All (λ y. (1 ≤ y) × (y ≤ m)) (held ++ waiting_in state_after)) (sym like.size)
+      subst (λ m. AllByRecursion (λ y. (1 ≤ y) × (y ≤ m)) (held ++ waiting_in state_after)) (sym like.size)
       (all_fewer (Inside R) (held ++ (bod ++ ((A ++ x ∷ B) ++ rest))) (held ++ waiting_in state_after) fewer i.inside)
 
-  left_after : All (HasLeft rows_after) (held ++ waiting_in state_after)
+  left_after : AllByRecursion (HasLeft rows_after) (held ++ waiting_in state_after)
   left_after = all_from_times (HasLeft rows_after) (held ++ waiting_in state_after) (λ y stands. each y stands (eqb y x) refl)
     where
       each : (y : ℕ) → 0 < times y (held ++ waiting_in state_after) → (v : Bool) → eqb y x ≡ v → HasLeft rows_after y

@@ -1,6 +1,6 @@
 -- Along every list of calls the invariant holds. Besides, the best break is a break of the page, and a book that is done has nothing left.
 use Rattle.std.proofs.Common.{◌≡◌, ℕ, ◌+◌, ◌-◌, ◌≤◌, Bool, true, false, List, [], ◌∷◌, ◌++◌, length, get_or, Some, None, Option, sym, refl, ap, ◌∙◌, subst, ap₂, append_assoc, arith, length-append}
-use Rattle.std.specs.List.{flat_map, AllByRecursion as All}
+use Rattle.std.specs.List.{flat_map, AllByRecursion}
 use Rattle.std.proofs.lemmas.List.{append-nil, get_or_append_left}
 use Rattle.std.proofs.ByRecursion.{All-weaker}
 use Rattle.std.proofs.lemmas.Bool.{both_ways}
@@ -77,12 +77,12 @@ best_push rows page x (Some at) h = record {
     go [] s w f = absurd (omega arith)
     go (y ∷ ys) s w f = f
 
-first_same : (old new : List Row) (page : List ℕ) (at : PageBreak) → All (λ x. item_at new x ≡ item_at old x) page → FirstNote old page at →
+first_same : (old new : List Row) (page : List ℕ) (at : PageBreak) → AllByRecursion (λ x. item_at new x ≡ item_at old x) page → FirstNote old page at →
     FirstNote new page at
 first_same old new [] at a f = tt
 first_same old new (x ∷ xs) at a f = λ n. subst (λ i. 1 ≤ get_or at.last (note_class i) 0) (sym a.0) (f (sym (ap is_note a.0) ∙ n))
 
-best_same : (old new : List Row) (page : List ℕ) (o : Option PageBreak) → All (λ x. item_at new x ≡ item_at old x) page → BestFor old page o →
+best_same : (old new : List Row) (page : List ℕ) (o : Option PageBreak) → AllByRecursion (λ x. item_at new x ≡ item_at old x) page → BestFor old page o →
     BestFor new page o
 best_same old new page None a h = tt
 best_same old new page (Some at) a h = record { some = h.some; within = h.within; first = first_same old new page at a h.first }

@@ -1,7 +1,7 @@
 -- The invariant of every state that calls lead to, and what leaves its parts alone.
 use Rattle.std.proofs.Common.{◌≡◌, ℕ, ◌<◌, ◌≤◌, Bool, true, false, cond, not, eqb, List, [], ◌∷◌, ◌++◌, length, get_or, filter, sym, ap, subst, ap₂}
 use mathlib.Core.Path.{fun_ext}
-use Rattle.std.specs.List.{flat_map, AllByRecursion as All}
+use Rattle.std.specs.List.{flat_map, AllByRecursion}
 use Rattle.std.proofs.ByRecursion.{All-weaker}
 use Rattle.items.specs.declared.Item.{Item}
 use Rattle.items.specs.declared.Row.{Row}
@@ -27,10 +27,10 @@ formed_alike {R} {Q} a w =
 abbrev pub is_word : List Row → ℕ → Bool
 is_word R x = not (is_note (item_at R x))
 
-pub all_words : (R : List Row) (xs : List ℕ) → All (λ x. is_note (item_at R x) ≡ false) xs → filter (is_word R) xs ≡ xs
+pub all_words : (R : List Row) (xs : List ℕ) → AllByRecursion (λ x. is_note (item_at R x) ≡ false) xs → filter (is_word R) xs ≡ xs
 all_words R xs h = kept_by_all (is_word R) xs (All-weaker (λ x. is_note (item_at R x) ≡ false) (λ x. is_word R x ≡ true) (λ x e. ap not e) xs h)
 
-pub no_words : (R : List Row) (xs : List ℕ) → All (λ x. is_note (item_at R x) ≡ true) xs → filter (is_word R) xs ≡ []
+pub no_words : (R : List Row) (xs : List ℕ) → AllByRecursion (λ x. is_note (item_at R x) ≡ true) xs → filter (is_word R) xs ≡ []
 no_words R xs h = kept_by_none (is_word R) xs (All-weaker (λ x. is_note (item_at R x) ≡ true) (λ x. is_word R x ≡ false) (λ x e. ap not e) xs h)
 
 -- what an entry that waits has of a class's text: what remains of a note of the class
@@ -63,8 +63,8 @@ HasLeft R x = is_note (item_at R x) ≡ true → 1 ≤ length (remaining R x)
 
 -- an output has notes that wait and a body of words, the last one no body; the page is empty then
 pub record Fit (R : List Row) (page : List ℕ) (out : Output) : Type 0 where
-  pub notes : All (λ x. is_note (item_at R x) ≡ true) out.waiting
-  pub words : All (λ x. is_note (item_at R x) ≡ false) out.body
+  pub notes : AllByRecursion (λ x. is_note (item_at R x) ≡ true) out.waiting
+  pub words : AllByRecursion (λ x. is_note (item_at R x) ≡ false) out.body
   pub last : out.final ≡ true → out.body ≡ []
   pub clear : page ≡ []
 
@@ -82,8 +82,8 @@ pub record Inv (fed : List Item) (s : State) (held : List ℕ) : Type 0 where
   pub formed : WellFormed (book_of s).rows
   pub ready : Ready s
   -- entries held or waiting are in the table and distinct, and notes among them have an item left
-  pub inside : All (Inside (book_of s).rows) (held ++ waiting_in s)
-  pub left : All (HasLeft (book_of s).rows) (held ++ waiting_in s)
+  pub inside : AllByRecursion (Inside (book_of s).rows) (held ++ waiting_in s)
+  pub left : AllByRecursion (HasLeft (book_of s).rows) (held ++ waiting_in s)
   pub apart : (x : ℕ) → times x (held ++ waiting_in s) ≤ 1
   -- what is marked dropped may be dropped, and items lie where the table says
   pub discarded : (x : ℕ) → Inside (book_of s).rows x → gone (book_of s).rows x ≡ true → is_discardable (item_at (book_of s).rows x) ≡ true
@@ -95,10 +95,10 @@ pub record Inv (fed : List Item) (s : State) (held : List ℕ) : Type 0 where
   pub classes : (c : ℕ) → text_of (book_of s).rows c (book_of s).shipped ++ (shelf (book_of s) c ++ parts (book_of s).rows c (waiting_in s))
       ≡ text_of (book_of s).rows c (kept_in (book_of s).rows)
   -- pages begin within what shipped
-  pub pages : All (λ p. p.from ≤ length (book_of s).shipped) (book_of s).pages
+  pub pages : AllByRecursion (λ p. p.from ≤ length (book_of s).shipped) (book_of s).pages
 
 -- what is on the page of an open book is in the table
-pub page_inside : {F : List Item} {b : Book} {held : List ℕ} → Inv F (is_open b) held → All (Inside b.rows) b.page
+pub page_inside : {F : List Item} {b : Book} {held : List ℕ} → Inv F (is_open b) held → AllByRecursion (Inside b.rows) b.page
 page_inside {F} {b} {held} i =
     all_left (Inside b.rows) b.page b.contributions (all_right (Inside b.rows) held (b.page ++ b.contributions) i.inside)
 
@@ -113,15 +113,15 @@ module _ {R Q : List Row} (a : Alike R Q) (spent : (x : ℕ) → spent_at Q x �
   pub same_owes : (xs : List ℕ) → owes Q xs ≡ owes R xs
   same_owes xs = ap₂ (λ (it : ℕ → Item) (rem : ℕ → List ℕ). flat_map (λ x. cond (is_note (it x)) (rem x) (x ∷ [])) xs) a.item same_remaining
 
-  pub same_left : (xs : List ℕ) → All (HasLeft R) xs → All (HasLeft Q) xs
-  same_left xs h = subst (λ (it : ℕ → Item). All (λ x. is_note (it x) ≡ true → 1 ≤ length (remaining Q x)) xs) (sym a.item)
-      (subst (λ (rem : ℕ → List ℕ). All (λ x. is_note (item_at R x) ≡ true → 1 ≤ length (rem x)) xs) (sym same_remaining) h)
+  pub same_left : (xs : List ℕ) → AllByRecursion (HasLeft R) xs → AllByRecursion (HasLeft Q) xs
+  same_left xs h = subst (λ (it : ℕ → Item). AllByRecursion (λ x. is_note (it x) ≡ true → 1 ≤ length (remaining Q x)) xs) (sym a.item)
+      (subst (λ (rem : ℕ → List ℕ). AllByRecursion (λ x. is_note (item_at R x) ≡ true → 1 ≤ length (rem x)) xs) (sym same_remaining) h)
 
 pub same_words : {R Q : List Row} → Alike R Q → (xs : List ℕ) → filter (is_word Q) xs ≡ filter (is_word R) xs
 same_words a xs = ap (λ (it : ℕ → Item). filter (λ x. not (is_note (it x))) xs) a.item
 
-pub same_inside : {R Q : List Row} → Alike R Q → (xs : List ℕ) → All (Inside R) xs → All (Inside Q) xs
-same_inside a xs h = subst (λ n. All (λ x. (1 ≤ x) × (x ≤ n)) xs) (sym a.size) h
+pub same_inside : {R Q : List Row} → Alike R Q → (xs : List ℕ) → AllByRecursion (Inside R) xs → AllByRecursion (Inside Q) xs
+same_inside a xs h = subst (λ n. AllByRecursion (λ x. (1 ≤ x) × (x ≤ n)) xs) (sym a.size) h
 
 -- items lie where they lay, where only what is owed may be other
 pub lies_still : (s t : State) (held : List ℕ) (y : ℕ) → (0 < times y (owed s) → 0 < times y (owed t)) → shelved (book_of s) ≡ shelved (book_of t) →

@@ -1,6 +1,6 @@
 -- One note is sorted at a firing: what of it goes to its shelf, what is dropped, what still waits, and what the rows say then.
 use Rattle.std.proofs.Common.{◌≡◌, ℕ, zero, suc, ◌+◌, ◌-◌, ◌<◌, ◌≤◌, Bool, true, false, cond, not, ◌&&◌, eqb, List, [], ◌∷◌, ◌++◌, length, get_or, take, drop, filter, sym, refl, ap, ◌∙◌, subst, ap₂, append_assoc, arith}
-use Rattle.std.specs.List.{flat_map, AllByRecursion as All}
+use Rattle.std.specs.List.{flat_map, AllByRecursion}
 use Rattle.std.proofs.lemmas.List.{append-nil, length-set, get_or-set_same, get_or-set_other, take-append-drop, drop-drop}
 use Rattle.std.proofs.lemmas.List.Elements.{filter-append}
 use Rattle.std.proofs.ByRecursion.{All-weaker, All-take, All-drop, kept_by_passes, all_kept_by}
@@ -78,7 +78,7 @@ module _ (sh : List (List Piece)) (c x first : ℕ) (h : c < length sh) where
       let g = times_append y (shelf_items (get_or sh c [])) (span first (suc n)) in
       omega arith
 
-pub kept_there : (q : ℕ → Bool) (R : List Row) → All (λ y. gone R y ≡ false) (filter q (kept_in R))
+pub kept_there : (q : ℕ → Bool) (R : List Row) → AllByRecursion (λ y. gone R y ≡ false) (filter q (kept_in R))
 kept_there q R = all_kept_by q (λ y. gone R y ≡ false) (kept_in R)
     (All-weaker (λ y. not (gone R y) ≡ true) (λ y. gone R y ≡ false) (λ y e. not-true (gone R y) e) (kept_in R)
     (kept_by_passes (λ y. not (gone R y)) (texts R)))
@@ -113,18 +113,18 @@ module _ (R : List Row) (w : WellFormed R) (x n d c k : ℕ) (x_inside : Inside 
   left_split =
       sym (ap (λ l. shelved_part R x n ++ l) (ap (λ l. dropped_part R x n d ++ l) (sym (drop-drop d n (remaining R x))) ∙ take-append-drop d (drop n (remaining R x))) ∙ take-append-drop n (remaining R x))
 
-  left_range : All (λ y. (x + 1 ≤ y) × (y ≤ x + k)) (remaining R x)
-  left_range = subst (λ l. All (λ y. (x + 1 ≤ y) × (y ≤ x + k)) l) (sym left_is)
+  left_range : AllByRecursion (λ y. (x + 1 ≤ y) × (y ≤ x + k)) (remaining R x)
+  left_range = subst (λ l. AllByRecursion (λ y. (x + 1 ≤ y) × (y ≤ x + k)) l) (sym left_is)
       (all_both (λ y. x + 1 ≤ y) (λ y. y ≤ x + k) (span (x + 1 + spent_at R x) (k - spent_at R x))
       (span_from (x + 1) (x + 1 + spent_at R x) (k - spent_at R x) (omega arith))
       (span_to_some (x + k) (x + 1 + spent_at R x) (k - spent_at R x) (λ h. omega arith)))
 
-  pub left_inside : All (Inside R) (remaining R x)
+  pub left_inside : AllByRecursion (Inside R) (remaining R x)
   left_inside =
       All-weaker (λ y. (x + 1 ≤ y) × (y ≤ x + k)) (Inside R) (λ y h. (omega arith, let m = (w.content x c k x_inside.0 is).within in omega arith))
       (remaining R x) left_range
 
-  pub left_text : (e : ℕ) → All (λ y. is_text R e y ≡ eqb c e) (remaining R x)
+  pub left_text : (e : ℕ) → AllByRecursion (λ y. is_text R e y ≡ eqb c e) (remaining R x)
   left_text e = All-weaker (λ y. (x + 1 ≤ y) × (y ≤ x + k)) (λ y. is_text R e y ≡ eqb c e) (λ y h. each y h) (remaining R x) left_range
     where
       each : (y : ℕ) → (x + 1 ≤ y) × (y ≤ x + k) → is_text R e y ≡ eqb c e
@@ -134,7 +134,7 @@ module _ (R : List Row) (w : WellFormed R) (x n d c k : ℕ) (x_inside : Inside 
           ap (λ m. not (eqb m 0) && eqb (note_class (item_at R m)) e) o ∙ ap (λ b. not b && eqb (note_class (item_at R x)) e) z ∙
           ap (λ t. eqb (note_class t) e) is
 
-  pub left_body : All (λ y. is_body R y ≡ false) (remaining R x)
+  pub left_body : AllByRecursion (λ y. is_body R y ≡ false) (remaining R x)
   left_body = All-weaker (λ y. (x + 1 ≤ y) × (y ≤ x + k)) (λ y. is_body R y ≡ false) (λ y h. each y h) (remaining R x) left_range
     where
       each : (y : ℕ) → (x + 1 ≤ y) × (y ≤ x + k) → is_body R y ≡ false
@@ -172,7 +172,7 @@ module _ (R : List Row) (w : WellFormed R) (x n d c k : ℕ) (x_inside : Inside 
   pub remaining_other : (y : ℕ) → 1 ≤ y → (y ≡ x → ⊥) → remaining (rows_spent R x n d) y ≡ remaining R y
   remaining_other y h e = ap₂ (λ (it : ℕ → Item) s. content (it y) y s) goes_alike.item (spent_other y h e)
 
-  module _ (there : All (λ y. gone R y ≡ false) (remaining R x)) where
+  module _ (there : AllByRecursion (λ y. gone R y ≡ false) (remaining R x)) where
     kept_shelved : kept_in (rows_shelved R x n) ≡ kept_in R
     kept_shelved =
         alike_kept (alike_put Shelved R (shelved_part R x n))
@@ -183,13 +183,13 @@ module _ (R : List Row) (w : WellFormed R) (x n d c k : ℕ) (x_inside : Inside 
         alike_kept (alike_spending (n + d) (rows_dropped R x n d) (x ∷ []))
         (λ y. part_kept (λ r. is_dropped r.place) (spending (n + d)) (λ r. refl) (x ∷ []) (rows_dropped R x n d) y)
 
-    dropped_inside : All (Inside (rows_shelved R x n)) (dropped_part R x n d)
+    dropped_inside : AllByRecursion (Inside (rows_shelved R x n)) (dropped_part R x n d)
     dropped_inside = All-take (Inside (rows_shelved R x n)) d (drop n (remaining R x)) (All-drop (Inside (rows_shelved R x n)) n (remaining R x)
         (All-weaker (Inside R) (Inside (rows_shelved R x n))
         (λ y h. (h.0, let s = length_change (put Shelved) (shelved_part R x n) R in let m = h.1 in omega arith)) (remaining R x) left_inside))
 
     -- text of another kind is kept as it was
-    goes_other : (q : ℕ → Bool) → All (λ y. q y ≡ false) (remaining R x) → filter q (kept_in (rows_spent R x n d)) ≡ filter q (kept_in R)
+    goes_other : (q : ℕ → Bool) → AllByRecursion (λ y. q y ≡ false) (remaining R x) → filter q (kept_in (rows_spent R x n d)) ≡ filter q (kept_in R)
     goes_other q h = ap (filter q) kept_spent ∙ kept_drop_other q (dropped_part R x n d) (rows_shelved R x n) dropped_inside
         (All-take (λ y. q y ≡ false) d (drop n (remaining R x)) (All-drop (λ y. q y ≡ false) n (remaining R x) h)) ∙ ap (filter q) kept_shelved
 
@@ -239,8 +239,8 @@ module _ (R : List Row) (w : WellFormed R) (x n d c k : ℕ) (x_inside : Inside 
   part_here e = ap (λ t. cond (eqb (note_class t) e) (remaining R x) []) is
 
   -- entries that are not the note
-  module _ (U : List ℕ) (far : All (λ y. 1 ≤ y) U) (absent : times x U ≡ 0) where
-    others : All (λ y. (1 ≤ y) × (y ≡ x → ⊥)) U
+  module _ (U : List ℕ) (far : AllByRecursion (λ y. 1 ≤ y) U) (absent : times x U ≡ 0) where
+    others : AllByRecursion (λ y. (1 ≤ y) × (y ≡ x → ⊥)) U
     others = all_both (λ y. 1 ≤ y) (λ y. y ≡ x → ⊥) U far (all_apart x U absent)
 
     parts_other : (e : ℕ) → parts (rows_spent R x n d) e U ≡ parts R e U
@@ -253,8 +253,8 @@ module _ (R : List Row) (w : WellFormed R) (x n d c k : ℕ) (x_inside : Inside 
         (All-weaker (λ y. (1 ≤ y) × (y ≡ x → ⊥)) (λ y. owed_for (rows_spent R x n d) y ≡ owed_for R y)
         (λ y h. ap₂ (λ (it : ℕ → Item) l. cond (is_note (it y)) l (y ∷ [])) goes_alike.item (remaining_other y h.0 h.1)) U others)
 
-  module _ (U V : List ℕ) (far_u : All (λ y. 1 ≤ y) U) (absent_u : times x U ≡ 0) (far_v : All (λ y. 1 ≤ y) V) (absent_v : times x V ≡ 0)
-      (there : All (λ y. gone R y ≡ false) (remaining R x)) (first : All (λ u. part R c u ≡ []) U) (few : n ≤ length (remaining R x))
+  module _ (U V : List ℕ) (far_u : AllByRecursion (λ y. 1 ≤ y) U) (absent_u : times x U ≡ 0) (far_v : AllByRecursion (λ y. 1 ≤ y) V) (absent_v : times x V ≡ 0)
+      (there : AllByRecursion (λ y. gone R y ≡ false) (remaining R x)) (first : AllByRecursion (λ u. part R c u ≡ []) U) (few : n ≤ length (remaining R x))
       (sh : List (List Piece)) (room : c < length sh) where
     abbrev grown : List (List Piece)
     grown = shelve sh c x (x + 1 + spent_at R x) n
@@ -357,10 +357,10 @@ module _ (R : List Row) (w : WellFormed R) (x n d c k : ℕ) (x_inside : Inside 
     pub goes_shelved : (y : ℕ) → times y (flat_map shelf_items grown) ≡ times y (flat_map shelf_items sh) + times y (shelved_part R x n)
     goes_shelved y = let a = shelve_times sh c x (x + 1 + spent_at R x) room n y in let b = ap (times y) shelved_is in omega arith
 
-  shelved_far : All (λ y. 1 ≤ y) (shelved_part R x n)
+  shelved_far : AllByRecursion (λ y. 1 ≤ y) (shelved_part R x n)
   shelved_far = All-take (λ y. 1 ≤ y) n (remaining R x) (from_one R (remaining R x) left_inside)
 
-  dropped_far : All (λ y. 1 ≤ y) (dropped_part R x n d)
+  dropped_far : AllByRecursion (λ y. 1 ≤ y) (dropped_part R x n d)
   dropped_far = All-take (λ y. 1 ≤ y) d (drop n (remaining R x)) (All-drop (λ y. 1 ≤ y) n (remaining R x) (from_one R (remaining R x) left_inside))
 
   place_spent : (y : ℕ) → place_at (rows_spent R x n d) y ≡ place_at (rows_dropped R x n d) y

@@ -1,6 +1,6 @@
 -- What a page comes to, class by class: a split note's break lies in its content, and a class with a note on the page has a last note.
 use Rattle.std.proofs.Common.{◌≡◌, ℕ, zero, suc, ◌<◌, ◌≤◌, Bool, true, false, cond, ◌⊎◌, List, [], ◌∷◌, map, length, get_or, drop, set, replicate, Some, None, fold, Option, refl, ◌∙◌, inl, inr, arith}
-use Rattle.std.specs.List.{AllByRecursion as All}
+use Rattle.std.specs.List.{AllByRecursion}
 use Rattle.std.proofs.lemmas.List.{length-set, get_or-set_same, get_or-set_other, get_or-replicate, get_or_past, set_past}
 use Rattle.std.proofs.lemmas.Bool.{cases_eq, cases_lt, false≢true}
 use Rattle.items.specs.declared.Item.{Item}
@@ -125,7 +125,7 @@ module _ (g : Ground) (rows : List Row) where
       let s = begin_later m c e in
       (note_noted (begin g m c) c x s.each l).1 (rw s.many k)
 
-  list_later : (xs : List ℕ) (m : PageSoFar) → Each m → All (λ x. 1 ≤ x) xs → Later rows m.classes (fold (next g rows) m xs).classes
+  list_later : (xs : List ℕ) (m : PageSoFar) → Each m → AllByRecursion (λ x. 1 ≤ x) xs → Later rows m.classes (fold (next g rows) m xs).classes
   list_later [] m e a = later_self rows m.classes e
   list_later (x ∷ xs) m e a =
       let s = item_later m x (item_at rows x) e a.0 in
@@ -141,10 +141,10 @@ module _ (g : Ground) (rows : List Row) where
       go (inl l) = rw (get_or-replicate 8 c untouched untouched l) none
       go (inr l) = rw (get_or_past (replicate 8 untouched) c untouched l) none
 
-  pub page_each : (xs : List ℕ) → All (λ x. 1 ≤ x) xs → (c : ℕ) → Classed rows (class_of (so_far g rows xs) c)
+  pub page_each : (xs : List ℕ) → AllByRecursion (λ x. 1 ≤ x) xs → (c : ℕ) → Classed rows (class_of (so_far g rows xs) c)
   page_each xs a = (list_later xs (fresh g) fresh_each a).each
 
-  pub page_last : (x : ℕ) (xs : List ℕ) → All (λ x. 1 ≤ x) (x ∷ xs) → is_note (item_at rows x) ≡ true → note_class (item_at rows x) < 8 →
+  pub page_last : (x : ℕ) (xs : List ℕ) → AllByRecursion (λ x. 1 ≤ x) (x ∷ xs) → is_note (item_at rows x) ≡ true → note_class (item_at rows x) < 8 →
       1 ≤ get_or (map (λ k. k.last) (so_far g rows (x ∷ xs)).classes) (note_class (item_at rows x)) 0
   page_last x xs a n l =
       let c = note_class (item_at rows x) in

@@ -1,6 +1,6 @@
 -- A settling keeps the invariant, and what ships is what is no more to come.
 use Rattle.std.proofs.Common.{◌≡◌, ℕ, ◌+◌, ◌-◌, ◌<◌, ◌≤◌, Bool, true, false, cond, not, ◌&&◌, eqb, List, [], ◌∷◌, ◌++◌, length, get_or, filter, Option, sym, refl, ap, ◌∙◌, subst, ap₂, append_assoc, arith, length-append, length-take}
-use Rattle.std.specs.List.{AllByRecursion as All}
+use Rattle.std.specs.List.{AllByRecursion}
 use Rattle.std.proofs.lemmas.List.{append-nil}
 use Rattle.std.proofs.lemmas.List.Elements.{filter-append}
 use Rattle.std.proofs.ByRecursion.{All-weaker, All-append, kept_by_passes, all_kept_by}
@@ -39,14 +39,14 @@ text_not_body R e y h = not-true (is_body R y) (and_parts (not (eqb (note_at R y
 pub body_not_text : (R : List Row) (e y : ℕ) → is_body R y ≡ true → is_text R e y ≡ false
 body_not_text R e y h = ap (λ t. not t && eqb (note_class (item_at R (note_at R y))) e) h
 
-owes_words : (R : List Row) (xs : List ℕ) → All (λ x. is_note (item_at R x) ≡ false) xs → owes R xs ≡ xs
+owes_words : (R : List Row) (xs : List ℕ) → AllByRecursion (λ x. is_note (item_at R x) ≡ false) xs → owes R xs ≡ xs
 owes_words R [] h = refl
 owes_words R (x ∷ xs) h = ap₂ (λ t l. cond t (remaining R x) (x ∷ []) ++ l) h.0 (owes_words R xs h.1)
 
-pub kept_inside : (q : ℕ → Bool) (R : List Row) → All (Inside R) (filter q (kept_in R))
+pub kept_inside : (q : ℕ → Bool) (R : List Row) → AllByRecursion (Inside R) (filter q (kept_in R))
 kept_inside q R = all_kept_by q (Inside R) (kept_in R) (all_kept_by (λ y. not (gone R y)) (Inside R) (texts R) (texts_inside R))
 
-kept_words : (q : ℕ → Bool) (R : List Row) → All (λ y. is_note (item_at R y) ≡ false) (filter q (kept_in R))
+kept_words : (q : ℕ → Bool) (R : List Row) → AllByRecursion (λ y. is_note (item_at R y) ≡ false) (filter q (kept_in R))
 kept_words q R = all_kept_by q P (kept_in R) (all_kept_by (λ y. not (gone R y)) P (texts R)
     (All-weaker (λ y. not (is_note (item_at R y)) ≡ true) P (λ y e. not-true (is_note (item_at R y)) e) (texts R)
     (kept_by_passes (λ y. not (is_note (item_at R y))) (span 1 (length R)))))
@@ -79,35 +79,35 @@ module _ (b : Book) (out : Output) (F : List Item) (before ships after back : Li
       ∙ ap (λ l. body R b.shipped ++ (before ++ l)) (sym words_old) ∙ i.bodies
 
   -- what holds of all kept body text holds of what ships, is held and returns
-  three : (P : ℕ → Type 0) → All P (body R (kept_in R)) → All P (ships ++ (after ++ back))
+  three : (P : ℕ → Type 0) → AllByRecursion P (body R (kept_in R)) → AllByRecursion P (ships ++ (after ++ back))
   three P h =
       all_left P (ships ++ (after ++ back)) (filter (is_word R) b.contributions)
-      (all_right P (body R b.shipped) ((ships ++ (after ++ back)) ++ filter (is_word R) b.contributions) (subst (All P) (sym bodies_were) h))
+      (all_right P (body R b.shipped) ((ships ++ (after ++ back)) ++ filter (is_word R) b.contributions) (subst (AllByRecursion P) (sym bodies_were) h))
 
   -- and of all kept text of a class, of its shelf
-  on_shelf : (P : ℕ → Type 0) (e : ℕ) → All P (text_of R e (kept_in R)) → All P (shelf b e)
+  on_shelf : (P : ℕ → Type 0) (e : ℕ) → AllByRecursion P (text_of R e (kept_in R)) → AllByRecursion P (shelf b e)
   on_shelf P e h =
       all_left P (shelf b e) (parts R e (waiting_in (is_fired b out)))
-      (all_right P (text_of R e b.shipped) (shelf b e ++ parts R e (waiting_in (is_fired b out))) (subst (All P) (sym (i.classes e)) h))
+      (all_right P (text_of R e b.shipped) (shelf b e ++ parts R e (waiting_in (is_fired b out))) (subst (AllByRecursion P) (sym (i.classes e)) h))
 
   -- of any kept text
-  module _ (P : ℕ → Type 0) (all : (q : ℕ → Bool) → All P (filter q (kept_in R))) where
-    on_ships : All P ships
+  module _ (P : ℕ → Type 0) (all : (q : ℕ → Bool) → AllByRecursion P (filter q (kept_in R))) where
+    on_ships : AllByRecursion P ships
     on_ships = all_left P ships (after ++ back) (three P (all (is_body R)))
 
-    on_after : All P after
+    on_after : AllByRecursion P after
     on_after = all_left P after back (all_right P ships (after ++ back) (three P (all (is_body R))))
 
-    on_back : All P back
+    on_back : AllByRecursion P back
     on_back = all_right P after back (all_right P ships (after ++ back) (three P (all (is_body R))))
 
-    on_shelves_lem : All P (on_shelves ts b.shelves)
+    on_shelves_lem : AllByRecursion P (on_shelves ts b.shelves)
     on_shelves_lem = shelves_all P ts b.shelves (λ e. on_shelf P e (all (is_text R e)))
 
-    on_s : All P s
+    on_s : AllByRecursion P s
     on_s = All-append P ships (on_shelves ts b.shelves) on_ships on_shelves_lem
 
-  far : (q : ℕ → Bool) → All (λ y. 1 ≤ y) (filter q (kept_in R))
+  far : (q : ℕ → Bool) → AllByRecursion (λ y. 1 ≤ y) (filter q (kept_in R))
   far q = from_one R (filter q (kept_in R)) (kept_inside q R)
 
   abbrev rows_shipped : List Row
@@ -154,7 +154,7 @@ module _ (b : Book) (out : Output) (F : List Item) (before ships after back : Li
   waits_then_is : waits_then ≡ out.waiting ++ (back ++ b.contributions)
   waits_then_is = ap (λ l. l ++ (out.waiting ++ (back ++ b.contributions))) i.ready.clear
 
-  back_words : All (λ y. is_note (item_at R y) ≡ false) back
+  back_words : AllByRecursion (λ y. is_note (item_at R y) ≡ false) back
   back_words = on_back (λ y. is_note (item_at R y) ≡ false) (λ q. kept_words q R)
 
   words_new : filter (is_word R) waits_then ≡ back ++ filter (is_word R) b.contributions

@@ -1,7 +1,7 @@
 -- The shelves that ship and those that stay, and the pages listed.
 use Rattle.std.proofs.Common.{◌≡◌, ℕ, zero, suc, ◌+◌, ◌-◌, ◌<◌, ◌≤◌, Bool, true, false, cond, eqb, List, [], ◌∷◌, ◌++◌, map, length, get_or, take, drop, replicate, ℤ, filter, sym, refl, ap, ◌∙◌, subst, arith}
 use lib.Dec.{eqb-zero-suc, eqb-suc-zero, eqb-suc-suc}
-use Rattle.std.specs.List.{flat_map, AllByRecursion as All}
+use Rattle.std.specs.List.{flat_map, AllByRecursion}
 use Rattle.std.proofs.lemmas.List.{append-nil, length-append, drop-append-le, take-append-le, take_at, drop_at, length-drop}
 use Rattle.std.proofs.lemmas.List.Elements.{filter-append}
 use Rattle.std.proofs.ByRecursion.{All-weaker, All-append}
@@ -20,12 +20,12 @@ emptied_size [] sh = refl
 emptied_size (t ∷ ts) [] = refl
 emptied_size (t ∷ ts) (p ∷ ps) = ap suc (emptied_size ts ps)
 
-pub shelves_all : (P : ℕ → Type 0) (ts : List Bool) (sh : List (List Piece)) → ((e : ℕ) → All P (shelf_items (get_or sh e []))) → All P (on_shelves ts sh)
+pub shelves_all : (P : ℕ → Type 0) (ts : List Bool) (sh : List (List Piece)) → ((e : ℕ) → AllByRecursion P (shelf_items (get_or sh e []))) → AllByRecursion P (on_shelves ts sh)
 shelves_all P [] sh h = tt
 shelves_all P (t ∷ ts) [] h = tt
 shelves_all P (t ∷ ts) (p ∷ ps) h = All-append P (cond t (shelf_items p) []) (on_shelves ts ps) (go t) (shelves_all P ts ps (λ e. h (suc e)))
   where
-    go : (t : Bool) → All P (cond t (shelf_items p) [])
+    go : (t : Bool) → AllByRecursion P (cond t (shelf_items p) [])
     go true = h 0
     go false = tt
 
@@ -70,7 +70,7 @@ every_named (suc n) (s ∷ ss) l = let i = every_named n ss (omega arith) in let
 
 -- of one class, what ships and what stays make its shelf
 pub shelves_class : (q : ℕ → Bool) (ts : List Bool) (sh : List (List Piece)) (c : ℕ) →
-    ((e : ℕ) → All (λ y. q y ≡ eqb e c) (shelf_items (get_or sh e []))) →
+    ((e : ℕ) → AllByRecursion (λ y. q y ≡ eqb e c) (shelf_items (get_or sh e []))) →
     filter q (on_shelves ts sh) ++ shelf_items (get_or (emptied ts sh) c []) ≡ shelf_items (get_or sh c [])
 shelves_class q [] sh c h = refl
 shelves_class q (t ∷ ts) [] c h = refl
@@ -113,7 +113,7 @@ module _ (sh s : List ℕ) (pg : Page) (at : pg.from ≡ length sh) where
   one_page : (f g : ℕ) → f ≤ length sh → g ≤ length sh → take (g - f) (drop f (sh ++ s)) ≡ take (g - f) (drop f sh)
   one_page f g h k = ap (take (g - f)) (drop-append-le f sh s h) ∙ take-append-le (g - f) (drop f sh) s (simp length-drop (omega arith))
 
-  pages_kept : (y : ℕ) (ps : List Page) (m : ℕ) → All (λ p. p.from ≤ length sh) ps → 0 < times y (page_after sh ps m) →
+  pages_kept : (y : ℕ) (ps : List Page) (m : ℕ) → AllByRecursion (λ p. p.from ≤ length sh) ps → 0 < times y (page_after sh ps m) →
       0 < times y (page_after (sh ++ s) (ps ++ pg ∷ []) m)
   pages_kept y [] m h k = absurd (omega arith)
   pages_kept y (p ∷ []) m h k = go (eqb m 0) k
@@ -133,7 +133,7 @@ module _ (sh s : List ℕ) (pg : Page) (at : pg.from ≡ length sh) where
       go false k i = i k
 
 module _ (b : Book) (pen : ℤ) where
-  pub listed_kept : (s : List ℕ) (y n : ℕ) → All (λ p. p.from ≤ length b.shipped) b.pages → 0 < times y (page_after b.shipped b.pages n) →
+  pub listed_kept : (s : List ℕ) (y n : ℕ) → AllByRecursion (λ p. p.from ≤ length b.shipped) b.pages → 0 < times y (page_after b.shipped b.pages n) →
       0 < times y (page_after (b.shipped ++ s) (listed b pen s) n)
   listed_kept [] y n h k = subst (λ l. 0 < times y (page_after l b.pages n)) (sym (append-nil b.shipped)) k
   listed_kept (x ∷ s) y n h k = pages_kept b.shipped (x ∷ s) (record { from = length b.shipped; penalty = pen }) refl y b.pages n h k
@@ -145,9 +145,9 @@ module _ (b : Book) (pen : ℤ) where
       subst (λ l. 0 < times y l)
       (sym (ap (page_after (b.shipped ++ x ∷ s) (b.pages ++ (record { from = length b.shipped; penalty = pen }) ∷ [])) e ∙ pages_last b.shipped (x ∷ s) (record { from = length b.shipped; penalty = pen }) refl b.pages)) k
 
-  pub listed_within : (s : List ℕ) → All (λ p. p.from ≤ length b.shipped) b.pages →
-      All (λ p. p.from ≤ length (b.shipped ++ s)) (listed b pen s)
-  listed_within [] h = subst (λ l. All (λ p. p.from ≤ length l) b.pages) (sym (append-nil b.shipped)) h
+  pub listed_within : (s : List ℕ) → AllByRecursion (λ p. p.from ≤ length b.shipped) b.pages →
+      AllByRecursion (λ p. p.from ≤ length (b.shipped ++ s)) (listed b pen s)
+  listed_within [] h = subst (λ l. AllByRecursion (λ p. p.from ≤ length l) b.pages) (sym (append-nil b.shipped)) h
   listed_within (x ∷ s) h =
       All-append (λ (p : Page). p.from ≤ length (b.shipped ++ x ∷ s)) b.pages ((record { from = length b.shipped; penalty = pen }) ∷ [])
       (All-weaker (λ (p : Page). p.from ≤ length b.shipped) (λ p. p.from ≤ length (b.shipped ++ x ∷ s))

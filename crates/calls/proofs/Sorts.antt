@@ -1,7 +1,7 @@
 -- The notes before a break, sorted in order: the invariant is kept, no more is to come, and the first note brings something.
 use Rattle.std.proofs.Common.{◌≡◌, ℕ, suc, ◌+◌, ◌<◌, ◌≤◌, Bool, true, false, cond, ◌&&◌, ◌||◌, eqb, ◌⊎◌, List, [], ◌∷◌, ◌++◌, map, length, get_or, take, drop, set, ℤ, fold, sym, refl, ap, ◌∙◌, subst, ap₂, inl, inr, append_assoc, arith, length-append, length-drop, length-take}
 use lib.ListN.{length-map}
-use Rattle.std.specs.List.{prefix_len, flat_map, AllByRecursion as All}
+use Rattle.std.specs.List.{prefix_len, flat_map, AllByRecursion}
 use Rattle.std.proofs.lemmas.List.{length-set, get_or-set_same, get_or-set_other, drop_all, drop-map}
 use Rattle.std.proofs.ByRecursion.{All-append}
 use Rattle.std.proofs.lemmas.Bool.{cases_lt, eqb-true, eqb-false, false≢true, and_parts, or_parts}
@@ -28,12 +28,12 @@ use Rattle.calls.proofs.Goes.{goes_weighs, goes_grows, mid, inv_goes}
 use Rattle.calls.proofs.NoteRows.{still, shelved_part, rest_part, dropped_part, rows_spent, goes_alike, spent_other, note_class_lem}
 
 -- what leads up to the first box of a note's content may be dropped
-leading_may : (R : List Row) (xs : List ℕ) → All (λ y. is_discardable (item_at R y) ≡ true) (take (prefix_len is_discardable (items_at R xs)) xs)
+leading_may : (R : List Row) (xs : List ℕ) → AllByRecursion (λ y. is_discardable (item_at R y) ≡ true) (take (prefix_len is_discardable (items_at R xs)) xs)
 leading_may R [] = tt
 leading_may R (x ∷ xs) = go (is_discardable (item_at R x)) refl (leading_may R xs)
   where
-    go : (b : Bool) → is_discardable (item_at R x) ≡ b → All (λ y. is_discardable (item_at R y) ≡ true) (take (prefix_len is_discardable (items_at R xs)) xs) →
-        All (λ y. is_discardable (item_at R y) ≡ true) (take (cond b (1 + prefix_len is_discardable (items_at R xs)) 0) (x ∷ xs))
+    go : (b : Bool) → is_discardable (item_at R x) ≡ b → AllByRecursion (λ y. is_discardable (item_at R y) ≡ true) (take (prefix_len is_discardable (items_at R xs)) xs) →
+        AllByRecursion (λ y. is_discardable (item_at R y) ≡ true) (take (cond b (1 + prefix_len is_discardable (items_at R xs)) 0) (x ∷ xs))
     go true e i = let f : 1 + prefix_len is_discardable (items_at R xs) ≡ suc (prefix_len is_discardable (items_at R xs)) = omega arith in rw f (e, i)
     go false e i = tt
 
@@ -45,8 +45,8 @@ module _ (b : Book) (rest bod : List ℕ) (p : ℤ) (F : List Item) (held : List
     pub inv : Inv F (mid b rest bod p s.rows s.shelves (s.waiting ++ todo)) held
     pub eight : length s.through ≡ 8
     pub like : Alike b.rows s.rows
-    pub fresh : All (λ x. spent_at s.rows x ≡ spent_at b.rows x) todo
-    pub order : (c : ℕ) → is_shut last s.through c ≡ false → All (λ w. eqb (note_class (item_at s.rows w)) c ≡ false) s.waiting
+    pub fresh : AllByRecursion (λ x. spent_at s.rows x ≡ spent_at b.rows x) todo
+    pub order : (c : ℕ) → is_shut last s.through c ≡ false → AllByRecursion (λ w. eqb (note_class (item_at s.rows w)) c ≡ false) s.waiting
 
   abbrev midway : Sorting → List ℕ → State
   midway s todo = mid b rest bod p s.rows s.shelves (s.waiting ++ todo)
@@ -65,7 +65,7 @@ module _ (b : Book) (rest bod : List ℕ) (p : ℤ) (F : List Item) (held : List
     cl = note_class (item_at s.rows x)
 
     -- what holds of all that waits holds of the notes to be sorted
-    of_notes : (P : ℕ → Type 0) → All P (held ++ waiting_in (midway s (x ∷ todo))) → All P (x ∷ todo)
+    of_notes : (P : ℕ → Type 0) → AllByRecursion P (held ++ waiting_in (midway s (x ∷ todo))) → AllByRecursion P (x ∷ todo)
     of_notes P h =
         all_right P s.waiting (x ∷ todo)
         (all_left P (s.waiting ++ x ∷ todo) rest
@@ -89,7 +89,7 @@ module _ (b : Book) (rest bod : List ℕ) (p : ℤ) (F : List Item) (held : List
         go c h false e = refl
 
     module _ (n d : ℕ) (is_last : Bool) (t : is_shut last s.through cl ≡ false) (few : n ≤ length (remaining s.rows x))
-        (may : All (λ y. is_discardable (item_at s.rows y) ≡ true) (dropped_part s.rows x n d))
+        (may : AllByRecursion (λ y. is_discardable (item_at s.rows y) ≡ true) (dropped_part s.rows x n d))
         (ends : is_last ≡ false → rest_part s.rows x n d ≡ []) where
       is : item_at s.rows x ≡ Note cl (note_class_lem (item_at s.rows x) isnote).0
       is = (note_class_lem (item_at s.rows x) isnote).1
@@ -114,10 +114,10 @@ module _ (b : Book) (rest bod : List ℕ) (p : ℤ) (F : List Item) (held : List
       inv_after = subst (λ l. Inv F (mid b rest bod p (goes s x cl n d is_last).rows (goes s x cl n d is_last).shelves l) held) (sym waiting_is)
           (inv_goes b rest bod p s.rows s.shelves s.waiting todo x n d cl size F held is i.inv (i.order cl t) few may)
 
-      todo_far : All (λ y. (1 ≤ y) × (y ≡ x → ⊥)) todo
+      todo_far : AllByRecursion (λ y. (1 ≤ y) × (y ≡ x → ⊥)) todo
       todo_far = all_both (λ y. 1 ≤ y) (λ y. y ≡ x → ⊥) todo far (all_apart x todo absent)
         where
-          far : All (λ y. 1 ≤ y) todo
+          far : AllByRecursion (λ y. 1 ≤ y) todo
           far = from_one s.rows todo (of_notes (Inside s.rows) i.inv.inside).1
 
           absent : times x todo ≡ 0
@@ -130,37 +130,37 @@ module _ (b : Book) (rest bod : List ℕ) (p : ℤ) (F : List Item) (held : List
               let o = times_here x todo in
               omega arith
 
-      fresh_after : All (λ y. spent_at (rows_spent s.rows x n d) y ≡ spent_at b.rows y) todo
+      fresh_after : AllByRecursion (λ y. spent_at (rows_spent s.rows x n d) y ≡ spent_at b.rows y) todo
       fresh_after = go todo todo_far i.fresh.1
         where
-          go : (ys : List ℕ) → All (λ y. (1 ≤ y) × (y ≡ x → ⊥)) ys → All (λ y. spent_at s.rows y ≡ spent_at b.rows y) ys →
-              All (λ y. spent_at (rows_spent s.rows x n d) y ≡ spent_at b.rows y) ys
+          go : (ys : List ℕ) → AllByRecursion (λ y. (1 ≤ y) × (y ≡ x → ⊥)) ys → AllByRecursion (λ y. spent_at s.rows y ≡ spent_at b.rows y) ys →
+              AllByRecursion (λ y. spent_at (rows_spent s.rows x n d) y ≡ spent_at b.rows y) ys
           go [] h k = tt
           go (y ∷ ys) h k = (spent_other s.rows i.inv.formed x n d cl size inside_x is y h.0.0 h.0.1 ∙ k.0, go ys h.1 k.1)
 
       order_after : (c : ℕ) → is_shut last (set s.through cl is_last) c ≡ false →
-          All (λ w. eqb (note_class (item_at s.rows w)) c ≡ false) (goes s x cl n d is_last).waiting
+          AllByRecursion (λ w. eqb (note_class (item_at s.rows w)) c ≡ false) (goes s x cl n d is_last).waiting
       order_after c h = pick (eqb cl c) refl
         where
           room : cl < length s.through
           room = let a = i.inv.formed.classes x cl size inside_x.0 is in let e = i.eight in omega arith
 
-          pick : (t : Bool) → eqb cl c ≡ t → All (λ w. eqb (note_class (item_at s.rows w)) c ≡ false) (goes s x cl n d is_last).waiting
+          pick : (t : Bool) → eqb cl c ≡ t → AllByRecursion (λ w. eqb (note_class (item_at s.rows w)) c ≡ false) (goes s x cl n d is_last).waiting
           pick true e =
               let same = eqb-true cl c e in
               let l : is_last ≡ false =
               sym (get_or-set_same s.through cl is_last false room) ∙ ap (λ z. get_or (set s.through cl is_last) z false) same ∙
               (or_parts (get_or (set s.through cl is_last) c false) (eqb (get_or last c 0) 0) h).0 in
-              subst (λ z. All (λ w. eqb (note_class (item_at s.rows w)) c ≡ false) (cond (empty z) s.waiting (s.waiting ++ x ∷ [])))
-              (sym (ends l)) (subst (λ z. All (λ w. eqb (note_class (item_at s.rows w)) z ≡ false) s.waiting) same (i.order cl t))
+              subst (λ z. AllByRecursion (λ w. eqb (note_class (item_at s.rows w)) c ≡ false) (cond (empty z) s.waiting (s.waiting ++ x ∷ [])))
+              (sym (ends l)) (subst (λ z. AllByRecursion (λ w. eqb (note_class (item_at s.rows w)) z ≡ false) s.waiting) same (i.order cl t))
           pick false e = go (rest_part s.rows x n d)
             where
-              old : All (λ w. eqb (note_class (item_at s.rows w)) c ≡ false) s.waiting
+              old : AllByRecursion (λ w. eqb (note_class (item_at s.rows w)) c ≡ false) s.waiting
               old =
                   i.order c
                   (ap (λ g. g || eqb (get_or last c 0) 0) (sym (get_or-set_other s.through cl c is_last false (λ z. eqb-false cl c e (sym z)))) ∙ h)
 
-              go : (z : List ℕ) → All (λ w. eqb (note_class (item_at s.rows w)) c ≡ false) (cond (empty z) s.waiting (s.waiting ++ x ∷ []))
+              go : (z : List ℕ) → AllByRecursion (λ w. eqb (note_class (item_at s.rows w)) c ≡ false) (cond (empty z) s.waiting (s.waiting ++ x ∷ []))
               go [] = old
               go (a ∷ z) = All-append (λ w. eqb (note_class (item_at s.rows w)) c ≡ false) s.waiting (x ∷ []) old (e, tt)
 
@@ -171,7 +171,7 @@ module _ (b : Book) (rest bod : List ℕ) (p : ℤ) (F : List Item) (held : List
         like = alike_then i.like alike_after;
         fresh = fresh_after;
         order = λ c h.
-            subst (λ (it : ℕ → Item). All (λ w. eqb (note_class (it w)) c ≡ false) (goes s x cl n d is_last).waiting) (sym alike_after.item)
+            subst (λ (it : ℕ → Item). AllByRecursion (λ w. eqb (note_class (it w)) c ≡ false) (goes s x cl n d is_last).waiting) (sym alike_after.item)
             (order_after c h);
       }
 
@@ -243,7 +243,7 @@ module _ (b : Book) (rest bod : List ℕ) (p : ℤ) (F : List Item) (held : List
         omega arith
     count_few false e = omega arith
 
-    drops_may : (t : Bool) → All (λ y. is_discardable (item_at s.rows y) ≡ true) (dropped_part s.rows x (count t) (drops t))
+    drops_may : (t : Bool) → AllByRecursion (λ y. is_discardable (item_at s.rows y) ≡ true) (dropped_part s.rows x (count t) (drops t))
     drops_may true = leading_may s.rows (drop here.before left)
     drops_may false = tt
 

@@ -1,6 +1,6 @@
 -- Runs of numbers.
 use Rattle.std.proofs.Common.{◌≡◌, ℕ, zero, suc, ◌+◌, ◌-◌, ◌<◌, ◌≤◌, Bool, true, false, cond, eqb, ◌∷◌, ◌++◌, length, take, drop, refl, ap, ◌∙◌, ap₂, arith}
-use Rattle.std.specs.List.{AllByRecursion as All}
+use Rattle.std.specs.List.{AllByRecursion}
 use Rattle.std.proofs.lemmas.Bool.{eqb-true, eqb-false, ne_eqb}
 use Rattle.items.specs.Lists.{span}
 use Rattle.calls.specs.Findings.{times}
@@ -25,15 +25,15 @@ drop_span zero a n = ap₂ span (omega arith) (omega arith)
 drop_span (suc m) a zero = let e : 0 - suc m ≡ 0 = omega arith in rw e refl
 drop_span (suc m) a (suc n) = drop_span m (suc a) n ∙ ap₂ span (omega arith) (omega arith)
 
-pub span_from : (b a n : ℕ) → b ≤ a → All (λ x. b ≤ x) (span a n)
+pub span_from : (b a n : ℕ) → b ≤ a → AllByRecursion (λ x. b ≤ x) (span a n)
 span_from b a zero h = tt
 span_from b a (suc n) h = (h, span_from b (suc a) n (omega arith))
 
-pub span_to : (b a n : ℕ) → a + n ≤ suc b → All (λ x. x ≤ b) (span a n)
+pub span_to : (b a n : ℕ) → a + n ≤ suc b → AllByRecursion (λ x. x ≤ b) (span a n)
 span_to b a zero h = tt
 span_to b a (suc n) h = (omega arith, span_to b (suc a) n (omega arith))
 
-pub span_to_some : (b a n : ℕ) → (0 < n → a + n ≤ suc b) → All (λ x. x ≤ b) (span a n)
+pub span_to_some : (b a n : ℕ) → (0 < n → a + n ≤ suc b) → AllByRecursion (λ x. x ≤ b) (span a n)
 span_to_some b a zero h = tt
 span_to_some b a (suc n) h = span_to b a (suc n) (h (omega arith))
 

@@ -1,6 +1,6 @@
 -- Each thing that a step does keeps the invariant; a drop takes one item from what is to come, and a move none.
 use Rattle.std.proofs.Common.{◌≡◌, ℕ, suc, ◌+◌, ◌<◌, ◌≤◌, true, false, cond, not, ◌&&◌, eqb, List, [], ◌∷◌, ◌++◌, length, filter, sym, refl, ap, ◌∙◌, subst, ap₂, append_assoc, arith}
-use Rattle.std.specs.List.{AllByRecursion as All}
+use Rattle.std.specs.List.{AllByRecursion}
 use Rattle.std.proofs.lemmas.List.Elements.{filter-append}
 use Rattle.std.proofs.ByRecursion.{kept_by_passes}
 use Rattle.std.proofs.lemmas.Bool.{cond-true, and_parts, not-true}
@@ -48,8 +48,8 @@ module _ (b : Book) (F : List Item) (held : List ℕ) (i : Inv F (is_open b) hel
           shelves = i.shelves;
           formed = i.formed;
           ready = tt;
-          inside = subst (λ l. All (Inside R) (held ++ l)) e i.inside;
-          left = subst (λ l. All (HasLeft R) (held ++ l)) e i.left;
+          inside = subst (λ l. AllByRecursion (Inside R) (held ++ l)) e i.inside;
+          left = subst (λ l. AllByRecursion (HasLeft R) (held ++ l)) e i.left;
           apart = λ y. subst (λ l. times y (held ++ l) ≤ 1) e (i.apart y);
           discarded = i.discarded;
           placed = λ y h.
@@ -79,7 +79,7 @@ module _ (b : Book) (F : List Item) (held : List ℕ) (i : Inv F (is_open b) hel
       x_inside : Inside R x
       x_inside =
           (all_right (Inside R) b.page (x ∷ rest)
-          (subst (All (Inside R)) waiting_is (all_right (Inside R) held (b.page ++ b.contributions) i.inside))).0
+          (subst (AllByRecursion (Inside R)) waiting_is (all_right (Inside R) held (b.page ++ b.contributions) i.inside))).0
 
       words : filter (is_word R) (b.page ++ b.contributions) ≡ filter (is_word R) b.page ++ x ∷ filter (is_word R) rest
       words =
@@ -96,7 +96,7 @@ module _ (b : Book) (F : List Item) (held : List ℕ) (i : Inv F (is_open b) hel
 
       is_body_lem : is_body R x ≡ true
       is_body_lem = (all_right (λ y. is_body R y ≡ true) (body R b.shipped ++ (held ++ filter (is_word R) b.page)) (x ∷ filter (is_word R) rest)
-          (subst (All (λ y. is_body R y ≡ true)) (sym bodies_were) (kept_by_passes (is_body R) (kept_in R)))).0
+          (subst (AllByRecursion (λ y. is_body R y ≡ true)) (sym bodies_were) (kept_by_passes (is_body R) (kept_in R)))).0
 
       bodies_are : (body R b.shipped ++ (held ++ filter (is_word R) b.page)) ++ filter (is_word R) rest ≡ body R (kept_in Q)
       bodies_are =

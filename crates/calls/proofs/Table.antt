@@ -1,7 +1,7 @@
 -- The item table: what a change of rows leaves alone, where items lie then, and what dropping takes from the text kept.
 use Rattle.std.proofs.Common.{◌≡◌, ℕ, zero, suc, ◌-◌, ◌<◌, ◌≤◌, Bool, true, false, cond, not, ◌&&◌, eqb, List, [], ◌∷◌, ◌++◌, map, length, get_or, set, ℤ, filter, sym, refl, ap, ◌∙◌, subst, ap₂, arith}
 use mathlib.Core.Path.{fun_ext}
-use Rattle.std.specs.List.{AllByRecursion as All}
+use Rattle.std.specs.List.{AllByRecursion}
 use Rattle.std.proofs.lemmas.List.{length-set, get_or-set_same, get_or-set_other}
 use Rattle.std.proofs.ByRecursion.{All-weaker, all_kept_by}
 use Rattle.std.proofs.lemmas.Bool.{eqb-true, eqb-false}
@@ -38,7 +38,7 @@ abbrev pub Inside : List Row → ℕ → Type 0
 Inside R x = (1 ≤ x) × (x ≤ length R)
 
 -- numbers in the table are counted from 1
-pub from_one : (R : List Row) (xs : List ℕ) → All (Inside R) xs → All (λ x. 1 ≤ x) xs
+pub from_one : (R : List Row) (xs : List ℕ) → AllByRecursion (Inside R) xs → AllByRecursion (λ x. 1 ≤ x) xs
 from_one R xs h = All-weaker (Inside R) (λ x. 1 ≤ x) (λ x k. k.0) xs h
 
 pub get_d_set_part : {A : Type 0} (g : Row → A) (R : List Row) (i : ℕ) (v : Row) (j : ℕ) (d : Row) → g v ≡ g (get_or R i d) →
@@ -120,7 +120,7 @@ module _ {R Q : List Row} (a : Alike R Q) where
   alike_kept h = ap₂ (λ (g : ℕ → Bool) xs. filter (λ x. not (g x)) xs) (fun_ext h) alike_texts
 
 -- places
-pub gone_put : (p : Place) → is_dropped p ≡ false → (xs : List ℕ) (R : List Row) → All (λ x. gone R x ≡ false) xs → (y : ℕ) →
+pub gone_put : (p : Place) → is_dropped p ≡ false → (xs : List ℕ) (R : List Row) → AllByRecursion (λ x. gone R x ≡ false) xs → (y : ℕ) →
     gone (change_all (put p) R xs) y ≡ gone R y
 gone_put p h [] R k y = refl
 gone_put p h (x ∷ xs) R k y = gone_put p h xs (change (put p) R x) (same xs k.1) y ∙ one y
@@ -128,7 +128,7 @@ gone_put p h (x ∷ xs) R k y = gone_put p h xs (change (put p) R x) (same xs k.
     one : (y : ℕ) → gone (change (put p) R x) y ≡ gone R y
     one y = get_d_set_part (λ r. is_dropped r.place) R (x - 1) (put p (row_at R x)) (y - 1) blank (h ∙ sym k.0)
 
-    same : (ys : List ℕ) → All (λ x. gone R x ≡ false) ys → All (λ z. gone (change (put p) R x) z ≡ false) ys
+    same : (ys : List ℕ) → AllByRecursion (λ x. gone R x ≡ false) ys → AllByRecursion (λ z. gone (change (put p) R x) z ≡ false) ys
     same [] m = tt
     same (z ∷ ys) m = (one z ∙ m.0, same ys m.1)
 
@@ -138,7 +138,7 @@ place_one p R x h = ap (λ r. r.place) (get_or-set_same R (x - 1) (put p (row_at
 pub row_other : (f : Row → Row) (R : List Row) (x y : ℕ) → 1 ≤ x → 1 ≤ y → (y ≡ x → ⊥) → row_at (change f R x) y ≡ row_at R y
 row_other f R x y h k d = get_or-set_other R (x - 1) (y - 1) (f (row_at R x)) blank (λ e. d (omega arith))
 
-pub rows_other : (f : Row → Row) (y : ℕ) → 1 ≤ y → (xs : List ℕ) (R : List Row) → All (λ x. 1 ≤ x) xs → times y xs ≡ 0 →
+pub rows_other : (f : Row → Row) (y : ℕ) → 1 ≤ y → (xs : List ℕ) (R : List Row) → AllByRecursion (λ x. 1 ≤ x) xs → times y xs ≡ 0 →
     row_at (change_all f R xs) y ≡ row_at R y
 rows_other f y k [] R h t = refl
 rows_other f y k (x ∷ xs) R h t = step (eqb y x) refl t (rows_other f y k xs (change f R x) h.1)
@@ -149,7 +149,7 @@ rows_other f y k (x ∷ xs) R h t = step (eqb y x) refl t (rows_other f y k xs (
     step true e t i = absurd (omega arith)
     step false e t i = i t ∙ row_other f R x y h.0 k (eqb-false y x e)
 
-pub place_in : (p : Place) (y : ℕ) (xs : List ℕ) (R : List Row) → Inside R y → All (λ x. 1 ≤ x) xs → 0 < times y xs →
+pub place_in : (p : Place) (y : ℕ) (xs : List ℕ) (R : List Row) → Inside R y → AllByRecursion (λ x. 1 ≤ x) xs → 0 < times y xs →
     place_at (change_all (put p) R xs) y ≡ p
 place_in p y [] R h k t = absurd (omega arith)
 place_in p y (x ∷ xs) R h k t = step (eqb y x) (times y xs) refl refl t (place_in p y xs (change (put p) R x) (h.0, simp length-set h.1) k.1)
@@ -171,12 +171,12 @@ kept_once q R x =
     let d = span_once x 1 (length R) in
     omega arith
 
-pub texts_inside : (R : List Row) → All (Inside R) (texts R)
+pub texts_inside : (R : List Row) → AllByRecursion (Inside R) (texts R)
 texts_inside R =
     all_kept_by (λ y. not (is_note (item_at R y))) (Inside R) (span 1 (length R))
     (both (span 1 (length R)) (span_from 1 1 (length R) (omega arith)) (span_to (length R) 1 (length R) (omega arith)))
   where
-    both : (xs : List ℕ) → All (λ x. 1 ≤ x) xs → All (λ x. x ≤ length R) xs → All (Inside R) xs
+    both : (xs : List ℕ) → AllByRecursion (λ x. 1 ≤ x) xs → AllByRecursion (λ x. x ≤ length R) xs → AllByRecursion (Inside R) xs
     both [] h k = tt
     both (x ∷ xs) h k = ((h.0, k.0), both xs h.1 k.1)
 
@@ -204,23 +204,23 @@ module _ (q : ℕ → Bool) where
       each x k false e =
           ap (λ r. not (is_dropped r.place)) (row_other (put Dropped) R d x h.0 k.0 (eqb-false x d e)) ∙ sym (and_true (not (gone R x)))
 
-  pub inside_change : (f : Row → Row) (R : List Row) (d : ℕ) (xs : List ℕ) → All (Inside R) xs → All (Inside (change f R d)) xs
+  pub inside_change : (f : Row → Row) (R : List Row) (d : ℕ) (xs : List ℕ) → AllByRecursion (Inside R) xs → AllByRecursion (Inside (change f R d)) xs
   inside_change f R d [] h = tt
   inside_change f R d (x ∷ xs) h = ((h.0.0, simp length-set h.0.1), inside_change f R d xs h.1)
 
-  pub kept_drop : (xs : List ℕ) (R : List Row) (l m : List ℕ) → All (Inside R) xs → l ++ (xs ++ m) ≡ filter q (kept_in R) →
+  pub kept_drop : (xs : List ℕ) (R : List Row) (l m : List ℕ) → AllByRecursion (Inside R) xs → l ++ (xs ++ m) ≡ filter q (kept_in R) →
       l ++ m ≡ filter q (kept_in (change_all (put Dropped) R xs))
   kept_drop [] R l m h e = e
   kept_drop (x ∷ xs) R l m h e = kept_drop xs (change (put Dropped) R x) l m (inside_change (put Dropped) R x xs h.1)
       (sym (without_one x l (xs ++ m) (subst (λ k. times x k ≤ 1) (sym e) (kept_once q R x))) ∙ ap (without x) e ∙ sym (kept_drop_one R x h.0))
 
-  pub kept_drop_other : (xs : List ℕ) (R : List Row) → All (Inside R) xs → All (λ x. q x ≡ false) xs →
+  pub kept_drop_other : (xs : List ℕ) (R : List Row) → AllByRecursion (Inside R) xs → AllByRecursion (λ x. q x ≡ false) xs →
       filter q (kept_in (change_all (put Dropped) R xs)) ≡ filter q (kept_in R)
   kept_drop_other [] R h k = refl
   kept_drop_other (x ∷ xs) R h k = kept_drop_other xs (change (put Dropped) R x) (inside_change (put Dropped) R x xs h.1) k.1
       ∙ kept_drop_one R x h.0 ∙ without_absent x (filter q (kept_in R)) (times_not_kept x q k.0 (kept_in R))
 
-pub put_cases : (p : Place) (xs : List ℕ) (R : List Row) (y : ℕ) → Inside R y → All (λ x. 1 ≤ x) xs → (Goal : Place → Type 0) →
+pub put_cases : (p : Place) (xs : List ℕ) (R : List Row) (y : ℕ) → Inside R y → AllByRecursion (λ x. 1 ≤ x) xs → (Goal : Place → Type 0) →
     (0 < times y xs → Goal p) → (times y xs ≡ 0 → Goal (place_at R y)) →
     Goal (place_at (change_all (put p) R xs) y)
 put_cases p xs R y h far Goal f g = go (times y xs) refl

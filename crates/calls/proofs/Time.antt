@@ -1,6 +1,6 @@
 -- With the limiter uppermost, done comes within the bound after the close.
 use Rattle.std.proofs.Common.{◌≡◌, ℕ, suc, ◌+◌, ◌-◌, ◌*◌, ◌<◌, ◌≤◌, Bool, true, false, cond, ◌⊎◌, List, [], ◌∷◌, ◌++◌, length, Option, sym, refl, ap, ◌∙◌, subst, inl, inr, arith, length-append}
-use Rattle.std.specs.List.{flat_map, AllByRecursion as All}
+use Rattle.std.specs.List.{flat_map, AllByRecursion}
 use Rattle.std.proofs.lemmas.Bool.{eqb-false}
 use Rattle.items.specs.declared.Item.{Item}
 use Rattle.items.specs.declared.Row.{Row}
@@ -36,7 +36,7 @@ abbrev count : Book → List ℕ → ℕ
 count b held = length (to_come (is_open b) held)
 
 -- each entry that waits stands for an item at least
-owes_some : (R : List Row) (xs : List ℕ) → All (HasLeft R) xs → length xs ≤ length (owes R xs)
+owes_some : (R : List Row) (xs : List ℕ) → AllByRecursion (HasLeft R) xs → length xs ≤ length (owes R xs)
 owes_some R [] a = omega arith
 owes_some R (x ∷ xs) a =
     let h = owes_some R xs a.1 in let k = some (is_note (item_at R x)) refl in let e = length-append (owed_for R x) (owes R xs) in omega arith

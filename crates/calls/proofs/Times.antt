@@ -1,6 +1,6 @@
 -- How often a number stands in a list, in a part of it, and in lists joined.
 use Rattle.std.proofs.Common.{◌≡◌, ℕ, zero, suc, ◌+◌, ◌<◌, ◌≤◌, Bool, true, false, cond, not, eqb, List, [], ◌∷◌, ◌++◌, length, get_or, set, filter, sym, refl, ap, ◌∙◌, subst, ap₂, arith, length-append}
-use Rattle.std.specs.List.{flat_map, AllByRecursion as All}
+use Rattle.std.specs.List.{flat_map, AllByRecursion}
 use Rattle.std.proofs.lemmas.List.Elements.{filter-append}
 use Rattle.std.proofs.lemmas.Bool.{eqb-true, eqb-false, eq-eqb, cond-true, cond-false}
 use Rattle.calls.specs.Findings.{times}
@@ -57,10 +57,10 @@ split_times y p xs = go (p y) refl
     go false e = let a = times_not_kept y p e xs in let c = times_kept y (λ x. not (p x)) (ap not e) xs in omega arith
 
 -- a list whose entries all pass lacks what does not
-pub lacks : (q : ℕ → Bool) (x : ℕ) (l : List ℕ) → All (λ y. q y ≡ true) l → q x ≡ false → times x l ≡ 0
+pub lacks : (q : ℕ → Bool) (x : ℕ) (l : List ℕ) → AllByRecursion (λ y. q y ≡ true) l → q x ≡ false → times x l ≡ 0
 lacks q x l h e = ap (times x) (sym (kept_by_all q l h)) ∙ times_not_kept x q e l
 
-pub all_times : (P : ℕ → Type 0) (x : ℕ) (xs : List ℕ) → All P xs → 0 < times x xs → P x
+pub all_times : (P : ℕ → Type 0) (x : ℕ) (xs : List ℕ) → AllByRecursion P xs → 0 < times x xs → P x
 all_times P x [] h k = absurd (omega arith)
 all_times P x (y ∷ ys) h k = step (eqb x y) refl k (all_times P x ys h.1)
   where
@@ -68,7 +68,7 @@ all_times P x (y ∷ ys) h k = step (eqb x y) refl k (all_times P x ys h.1)
     step true e k i = subst P (sym (eqb-true x y e)) h.0
     step false e k i = i k
 
-pub all_from_times : (P : ℕ → Type 0) (xs : List ℕ) → ((x : ℕ) → 0 < times x xs → P x) → All P xs
+pub all_from_times : (P : ℕ → Type 0) (xs : List ℕ) → ((x : ℕ) → 0 < times x xs → P x) → AllByRecursion P xs
 all_from_times P [] h = tt
 all_from_times P (y ∷ ys) h = (h y (omega (arith, times_here y ys)), all_from_times P ys (λ x k. h x (more x (eqb x y) k)))
   where
@@ -76,11 +76,11 @@ all_from_times P (y ∷ ys) h = (h y (omega (arith, times_here y ys)), all_from_
     more x true k = omega arith
     more x false k = k
 
-pub all_fewer : (P : ℕ → Type 0) (xs ys : List ℕ) → ((y : ℕ) → times y ys ≤ times y xs) → All P xs → All P ys
+pub all_fewer : (P : ℕ → Type 0) (xs ys : List ℕ) → ((y : ℕ) → times y ys ≤ times y xs) → AllByRecursion P xs → AllByRecursion P ys
 all_fewer P xs ys h a = all_from_times P ys (λ y k. all_times P y xs a (let m = h y in omega arith))
 
 -- a number that a list lacks is none of the list's
-pub all_apart : (x : ℕ) (ys : List ℕ) → times x ys ≡ 0 → All (λ y. y ≡ x → ⊥) ys
+pub all_apart : (x : ℕ) (ys : List ℕ) → times x ys ≡ 0 → AllByRecursion (λ y. y ≡ x → ⊥) ys
 all_apart x ys h = all_from_times (λ y. y ≡ x → ⊥) ys (λ y k e. let z = ap (λ w. times w ys) e in omega arith)
 
 -- a list without a number

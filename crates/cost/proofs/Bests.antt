@@ -1,7 +1,7 @@
 -- What the least-cost rule keeps is one of the two, so what holds of both holds of it.
 use Rattle.std.proofs.Common.{Bool, true, false, cond, List, [], ◌∷◌, ℤ, pos, IfSome, Some, None, fold, Option}
 use lib.Signed.{le_z}
-use Rattle.std.specs.List.{AllByRecursion as All}
+use Rattle.std.specs.List.{AllByRecursion}
 use Rattle.items.specs.Items.{most}
 use Rattle.cost.specs.Least.{least}
 
@@ -22,6 +22,6 @@ module _ {C : Type 0} (price : C → ℤ) (P : C → Type 0) where
       go true = k
       go false = h
 
-  pub leasts_keep : (best : Option C) (found : List C) → Perhaps best → All P found → Perhaps (fold (least price) best found)
+  pub leasts_keep : (best : Option C) (found : List C) → Perhaps best → AllByRecursion P found → Perhaps (fold (least price) best found)
   leasts_keep best [] h k = h
   leasts_keep best (x ∷ xs) h k = leasts_keep (least price best x) xs (least_keeps best x h k.0) k.1

@@ -1,7 +1,7 @@
 -- The sums of n items within their limits are small, so that none can wrap while n is below 2 ^ 29.
 use Rattle.std.proofs.Common.{◌≡◌, ℕ, ◌+◌, ◌-◌, ◌*◌, ◌^◌, ◌<◌, ◌≤◌, Bool, true, false, cond, ltb, length, get_or, ℤ, pos, ◌+ℤ◌, nat_abs, refl, arith}
 use borrow.Author.Differences.{ints}
-use Rattle.std.specs.List.{AllByRecursion as All}
+use Rattle.std.specs.List.{AllByRecursion}
 use Rattle.std.proofs.lemmas.Bool.{ltb-true}
 use Rattle.std.proofs.lemmas.List.{length-set}
 use Rattle.std.proofs.ByRecursion.{All-weaker, All-set, All-get_or}
@@ -17,7 +17,7 @@ pub record Small (n b : ℕ) (s : Sums) : Type 0 where
   pub total : nat_abs s.total ≤ b
   pub depth : s.depth ≤ most
   pub four : length s.stretch ≡ 4
-  pub stretch : All (λ x. x ≤ n * 2 ^ 30) s.stretch
+  pub stretch : AllByRecursion (λ x. x ≤ n * 2 ^ 30) s.stretch
   pub shrink : s.shrink ≤ n * 2 ^ 30
 
 abbrev pub Bounded : ℕ → Sums → Type 0

@@ -1,6 +1,6 @@
 -- What a list of items comes to, and how that fits a goal.
 use Rattle.std.specs.Prelude.{ℕ, ◌+◌, ◌-◌, ◌^◌, ◌<◌, Bool, cond, not, List, [], ◌∷◌, ℤ, pos, ◌+ℤ◌, ◌-ℤ◌, ◌==◌, int_lt, nat_lt, slice_index, slice_set, unsigned_abs}
-use Rattle.std.specs.List.{AllByRecursion as All}
+use Rattle.std.specs.List.{AllByRecursion}
 use Rattle.items.specs.declared.Item.{Item}
 use Rattle.items.specs.declared.Item.TheVariants.{Box, Glue, Kern, Penalty, Note}
 use Rattle.items.specs.Items.{most}
@@ -34,7 +34,7 @@ weighed d s x = capped d (set_below s x)
 -- one more item cannot wrap any of the sums
 pub record Roomy (s : Sums) : Type 0 where
   pub total : unsigned_abs s.total < 2 ^ 62
-  pub stretch : All (λ x. x < 2 ^ 62) s.stretch
+  pub stretch : AllByRecursion (λ x. x < 2 ^ 62) s.stretch
   pub shrink : s.shrink < 2 ^ 62
 
 -- there is stretch of a higher order than the lowest

@@ -1,7 +1,7 @@
 -- The parts of a split note are its items in order, and only glue, kerns and penalties are dropped.
 use Rattle.std.proofs.Common.{◌≡◌, ℕ, zero, suc, ◌+◌, ◌-◌, ◌≤◌, Bool, true, false, cond, ltb, List, [], ◌∷◌, ◌++◌, length, take, drop, ℤ, Some, None, Option, sym, refl, ap, ◌∙◌, subst, add-zero, zero-add, arith}
 use Rattle.std.specs.Option.{option_map}
-use Rattle.std.specs.List.{AllByRecursion as All}
+use Rattle.std.specs.List.{AllByRecursion}
 use Rattle.std.proofs.lemmas.List.{append_assoc, length-drop}
 use Rattle.std.proofs.lemmas.List.Sums.{prefix_len-le-length}
 use Rattle.items.proofs.Contents.{leading_passes}
@@ -18,7 +18,7 @@ use Rattle.notes.proofs.Places.{break_within}
 pub record Fair (items : List Item) (first : ℕ) (p : Part) : Type 0 where
   pub begins : p.first ≡ first
   pub ends : end_of p ≤ length items
-  pub dropped : All (λ x. is_discardable x ≡ true) (take p.dropped (drop (p.first + p.cut.place) items))
+  pub dropped : AllByRecursion (λ x. is_discardable x ≡ true) (take p.dropped (drop (p.first + p.cut.place) items))
 
 span_append : (a m n : ℕ) → span a (m + n) ≡ span a m ++ span (a + m) n
 span_append a zero n = rw (zero-add n, add-zero a)

@@ -3,7 +3,7 @@
 use Rattle.std.proofs.Common.{◌≡◌, ℕ, ◌+◌, ◌≤◌, Bool, true, false, cond, List, [], ◌∷◌, ◌++◌, length, drop, ℤ, pos, ◌≤ℤ◌, ◌<ℤ◌, IfSome, Some, None, fold, Option, sym, refl, subst, arith, MatchOption}
 use lib.Signed.{le_z}
 use borrow.Author.Differences.{ints}
-use Rattle.std.specs.List.{AllByRecursion as All}
+use Rattle.std.specs.List.{AllByRecursion}
 use Rattle.std.proofs.ByRecursion.{All-append, All-weaker}
 use Rattle.std.proofs.lemmas.List.{length_push, length-append, append_assoc, drop_at}
 use Rattle.items.specs.declared.Item.{Item}
@@ -19,23 +19,23 @@ use Rattle.notes.specs.declared.NoteBreak.{NoteBreak}
 use Rattle.notes.specs.Break.{penalty_before, note_penalty, sums_of, where_allowed, candidates, ends, best_of, break_of}
 use Rattle.notes.proofs.Walk.{price, note_allowed}
 
-up_to_all : {A : Type 0} (P : A → Type 0) (t : A → Bool) (xs : List A) → All P xs → All P (up_to t xs)
+up_to_all : {A : Type 0} (P : A → Type 0) (t : A → Bool) (xs : List A) → AllByRecursion P xs → AllByRecursion P (up_to t xs)
 up_to_all P t [] h = tt
 up_to_all P t (x ∷ xs) h = (h.0, go (t x) (up_to_all P t xs h.1))
   where
-    go : (b : Bool) → All P (up_to t xs) → All P (cond b [] (up_to t xs))
+    go : (b : Bool) → AllByRecursion P (up_to t xs) → AllByRecursion P (cond b [] (up_to t xs))
     go true k = tt
     go false k = k
 
-pub break_keeps : (P : NoteBreak → Type 0) (items : List Item) (w : ℤ) (d : ℕ) → All P (candidates w d [] items) → IfSome (break_of items w d) P
+pub break_keeps : (P : NoteBreak → Type 0) (items : List Item) (w : ℤ) (d : ℕ) → AllByRecursion P (candidates w d [] items) → IfSome (break_of items w d) P
 break_keeps P items w d h = leasts_keep (λ (b : NoteBreak). b.cost) P None (up_to ends (candidates w d [] items)) tt (up_to_all P ends (candidates w d [] items) h)
 
 module _ (w : ℤ) (d : ℕ) where
-  placed : (before : List Item) (n : ℕ) (o : Option ℤ) → length before ≤ n → All (λ b. b.place ≤ n) (where_allowed w d before o)
+  placed : (before : List Item) (n : ℕ) (o : Option ℤ) → length before ≤ n → AllByRecursion (λ b. b.place ≤ n) (where_allowed w d before o)
   placed before n None l = tt
   placed before n (Some p) l = (l, tt)
 
-  places : (before after : List Item) → All (λ b. b.place ≤ length before + length after) (candidates w d before after)
+  places : (before after : List Item) → AllByRecursion (λ b. b.place ≤ length before + length after) (candidates w d before after)
   places before [] = placed before _ (note_penalty before []) (omega arith)
   places before (x ∷ after) =
       All-append _ (where_allowed w d before (note_penalty before (x ∷ after))) _ (placed before _ (note_penalty before (x ∷ after)) (omega arith))
@@ -66,7 +66,7 @@ note_drops before (Penalty v ∷ after) p e = refl
 note_drops before (Note c n ∷ after) p e = let z : ◌≡◌ {A = ℕ} 0 1 = cc in absurd (omega arith)
 
 module _ (w : ℤ) (d : ℕ) where
-  breaks_here : (before after : List Item) (o : Option ℤ) → note_penalty before after ≡ o → All (Breaks (before ++ after)) (where_allowed w d before o)
+  breaks_here : (before after : List Item) (o : Option ℤ) → note_penalty before after ≡ o → AllByRecursion (Breaks (before ++ after)) (where_allowed w d before o)
   breaks_here before after None e = tt
   breaks_here before after (Some p) e = (
     record {
@@ -77,11 +77,11 @@ module _ (w : ℤ) (d : ℕ) where
     tt,
   )
 
-  all_break : (before after : List Item) → All (Breaks (before ++ after)) (candidates w d before after)
+  all_break : (before after : List Item) → AllByRecursion (Breaks (before ++ after)) (candidates w d before after)
   all_break before [] = breaks_here before [] (note_penalty before []) refl
   all_break before (x ∷ after) =
       All-append _ (where_allowed w d before (note_penalty before (x ∷ after))) _ (breaks_here before (x ∷ after) (note_penalty before (x ∷ after)) refl)
-      (subst (λ items. All (Breaks items) (candidates w d (before ++ x ∷ []) after)) (append_assoc before (x ∷ []) after) (all_break (before ++ x ∷ []) after))
+      (subst (λ items. AllByRecursion (Breaks items) (candidates w d (before ++ x ∷ []) after)) (append_assoc before (x ∷ []) after) (all_break (before ++ x ∷ []) after))
 
   some_candidate : (before after : List Item) → 1 ≤ length (candidates w d before after)
   some_candidate before [] = omega arith
@@ -108,7 +108,7 @@ module _ (items : List Item) where
       go true = k
       go false = h
 
-  leasts_break : (best : Option NoteBreak) (found : List NoteBreak) → Broken items best → All (Breaks items) found → Broken items (fold (least price) best found)
+  leasts_break : (best : Option NoteBreak) (found : List NoteBreak) → Broken items best → AllByRecursion (Breaks items) found → Broken items (fold (least price) best found)
   leasts_break best [] h k = h
   leasts_break None (x ∷ xs) h k = absurd h
   leasts_break (Some best) (x ∷ xs) h k = leasts_break (least price (Some best) x) xs (least_breaks best x h k.0) k.1
@@ -121,7 +121,7 @@ module _ (items : List Item) where
       go true e l = h
       go false e l = absurd (omega (arith, ints))
 
-  best_breaks : (found : List NoteBreak) → 1 ≤ length found → All (Breaks items) found → Broken items (best_of None found)
+  best_breaks : (found : List NoteBreak) → 1 ≤ length found → AllByRecursion (Breaks items) found → Broken items (best_of None found)
   best_breaks [] l h = absurd (omega arith)
   best_breaks (x ∷ xs) l h = leasts_break (least price None x) (cond (ends x) [] (up_to ends xs)) (first_breaks x h.0) (up_to_all (Breaks items) ends (x ∷ xs) h).1
 

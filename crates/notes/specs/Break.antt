@@ -1,6 +1,6 @@
 -- Where a note breaks.
 use Rattle.std.specs.Prelude.{◌≡◌, ℕ, Bool, true, false, cond, List, [], ◌∷◌, ◌++◌, length, ℤ, pos, ◌+ℤ◌, Some, None, fold, Option, int_le}
-use Rattle.std.specs.List.{AllByRecursion as All}
+use Rattle.std.specs.List.{AllByRecursion}
 use Rattle.items.specs.declared.Item.{Item}
 use Rattle.items.specs.declared.Item.TheVariants.{Box, Glue, Kern, Penalty, Note}
 use Rattle.items.specs.Lists.{up_to}
@@ -13,7 +13,7 @@ use Rattle.notes.specs.declared.NoteBreak.{NoteBreak}
 
 -- every value of the items is within its limits
 abbrev pub Within : List Item → Type 0
-Within items = All (λ x. within_limits x ≡ true) items
+Within items = AllByRecursion (λ x. within_limits x ≡ true) items
 
 abbrev pub last_is : (Item → Bool) → List Item → Bool
 last_is p [] = false

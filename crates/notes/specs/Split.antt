@@ -1,7 +1,7 @@
 -- A long note split to a list of wanted heights.
 use Rattle.std.specs.Prelude.{◌≡◌, ℕ, ◌+◌, ◌-◌, true, cond, ◌||◌, List, [], ◌∷◌, ◌++◌, length, take, drop, ℤ, Some, None, Ok, Err, Option, Result, ◌==◌, nat_lt}
 use Rattle.std.specs.Option.{option_map}
-use Rattle.std.specs.List.{prefix_len, flat_map, AllByRecursion as All}
+use Rattle.std.specs.List.{prefix_len, flat_map, AllByRecursion}
 use Rattle.items.specs.declared.Item.{Item}
 use Rattle.items.specs.declared.refusals.Refusal.{Refusal}
 use Rattle.items.specs.declared.refusals.Cause.TheVariants.{Limits, NoContent}
@@ -52,7 +52,7 @@ InOrder first n ps = let rest = rest_after first ps in
 
 -- only glue, kerns and penalties are dropped
 abbrev pub OnlyDiscardable : List Item → List Part → Type 0
-OnlyDiscardable items ps = All (λ p. All (λ x. is_discardable x ≡ true) (take p.dropped (drop (p.first + p.cut.place) items))) ps
+OnlyDiscardable items ps = AllByRecursion (λ p. AllByRecursion (λ x. is_discardable x ≡ true) (take p.dropped (drop (p.first + p.cut.place) items))) ps
 
 -- what is refused: a table's length or the depth outside its limits, no content, and what content may not hold
 abbrev pub split_refusal : List Item → ℕ → ℕ → ℕ → Option Refusal

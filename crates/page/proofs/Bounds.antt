@@ -2,7 +2,7 @@
 -- most 16,384 items.
 use Rattle.std.proofs.Common.{◌≡◌, ℕ, zero, suc, ◌+◌, ◌-◌, ◌*◌, ◌^◌, ◌<◌, ◌≤◌, Bool, true, false, cond, List, [], ◌∷◌, length, get_or, pos, nat_abs, Some, None, fold, Option, sym, refl, subst, add-zero, zero-add, arith}
 use borrow.Author.Differences.{ints}
-use Rattle.std.specs.List.{AllByRecursion as All}
+use Rattle.std.specs.List.{AllByRecursion}
 use Rattle.std.proofs.ByRecursion.{All-weaker, All-set}
 use Rattle.std.proofs.lemmas.Bool.Decides.{nat_tests}
 use Rattle.items.specs.declared.Item.{Item}
@@ -29,7 +29,7 @@ use Rattle.page.proofs.Heights.{break_modest}
 use Rattle.page.proofs.Contents.{left_within, left_short}
 
 -- what holds of a list's elements and of the default holds wherever the list is read
-all_read : {A : Type 0} (P : A → Type 0) (xs : List A) (i : ℕ) (d : A) → P d → All P xs → P (get_or xs i d)
+all_read : {A : Type 0} (P : A → Type 0) (xs : List A) (i : ℕ) (d : A) → P d → AllByRecursion P xs → P (get_or xs i d)
 all_read P [] i d h k = h
 all_read P (x ∷ xs) zero d h k = k.0
 all_read P (x ∷ xs) (suc i) d h k = all_read P xs i d h k.1
@@ -37,7 +37,7 @@ all_read P (x ∷ xs) (suc i) d h k = all_read P xs i d h k.1
 -- sums and notes of up to n items, and a goal and heights up to b
 pub record Small (n b : ℕ) (m : PageSoFar) : Type 0 where
   pub goal : nat_abs m.goal ≤ b
-  pub heights : All (λ k. nat_abs k.height ≤ b) m.classes
+  pub heights : AllByRecursion (λ k. nat_abs k.height ≤ b) m.classes
   pub sums : Bounded (2 * n) m.sums
   pub notes : nat_abs m.notes ≤ n * 10000
 
@@ -59,7 +59,7 @@ bounded_led n k s l h =
     let wider = bounded_more n (n + 1) s (omega arith) h in
     record { total = omega (arith, ints, h.total); depth = h.depth; four = h.four; stretch = wider.stretch; shrink = wider.shrink }
 
-more_heights : (b c : ℕ) (ks : List ClassSoFar) → b ≤ c → All (λ k. nat_abs k.height ≤ b) ks → All (λ k. nat_abs k.height ≤ c) ks
+more_heights : (b c : ℕ) (ks : List ClassSoFar) → b ≤ c → AllByRecursion (λ k. nat_abs k.height ≤ b) ks → AllByRecursion (λ k. nat_abs k.height ≤ c) ks
 more_heights b c ks l h = All-weaker _ _ (λ k j. omega (arith, j)) ks h
 
 small_more : (n b c : ℕ) (m : PageSoFar) → b ≤ c → Small n b m → Small n c m
@@ -187,13 +187,13 @@ module _ (g : Ground) (h : Grounded g) where
     pub next_small : (n : ℕ) (m : PageSoFar) (x : ℕ) → 1 ≤ x → After n m → After (n + 1) (next g rows m x)
     next_small n m x f s = small_more (n + 1) (n * 2 ^ 47 + 2 ^ 30 + 2 ^ 47) ((n + 1) * 2 ^ 47 + 2 ^ 30) _ (omega arith) (item_small n (n * 2 ^ 47 + 2 ^ 30) m x f s (item_at rows x) (t.values x f))
 
-    all_small : (n : ℕ) (m : PageSoFar) (xs : List ℕ) → All (Inside rows) xs → After n m → After (n + length xs) (fold (next g rows) m xs)
+    all_small : (n : ℕ) (m : PageSoFar) (xs : List ℕ) → AllByRecursion (Inside rows) xs → After n m → After (n + length xs) (fold (next g rows) m xs)
     all_small n m [] i s = rw add-zero s
     all_small n m (x ∷ xs) i s =
         let e : n + 1 + length xs ≡ n + suc (length xs) = omega arith in
         subst (λ k. After k (fold (next g rows) m (x ∷ xs))) e (all_small (n + 1) (next g rows m x) xs i.1 (next_small n m x i.0.first s))
 
-    pub page_small : (xs : List ℕ) → All (Inside rows) xs → After (length xs) (so_far g rows xs)
+    pub page_small : (xs : List ℕ) → AllByRecursion (Inside rows) xs → After (length xs) (so_far g rows xs)
     page_small xs i = subst (λ k. After k (so_far g rows xs)) (zero-add (length xs)) (all_small 0 (fresh g) xs i fresh_small)
 
   small_low : (n b c : ℕ) (m : PageSoFar) → n ≤ 16384 → b < 3 * 2 ^ 60 → c < 8 → Small n b m → Low g m c

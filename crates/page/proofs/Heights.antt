@@ -2,7 +2,7 @@
 use Rattle.std.proofs.Common.{◌≡◌, ℕ, ◌+◌, ◌^◌, ◌≤◌, Bool, true, false, cond, List, [], ◌∷◌, ◌++◌, length, ℤ, nat_abs, IfSome, Some, None, Option, sym, subst, arith}
 use lib.Signed.{le_z}
 use borrow.Author.Differences.{ints}
-use Rattle.std.specs.List.{AllByRecursion as All}
+use Rattle.std.specs.List.{AllByRecursion}
 use Rattle.std.proofs.ByRecursion.{All-append}
 use Rattle.std.proofs.lemmas.List.{length_push}
 use Rattle.std.proofs.lemmas.List.Sums.{fold_push}
@@ -49,11 +49,11 @@ note_slight before (Penalty v ∷ after) h = unless_slight v h.0
 note_slight before (Note c n ∷ after) h = tt
 
 module _ (w : ℤ) (d : ℕ) where
-  allowed_modest : (before : List Item) (o : Option ℤ) → Bounded (length before) (sums_of d before) → length before ≤ 16384 → Slight o → All Modest (where_allowed w d before o)
+  allowed_modest : (before : List Item) (o : Option ℤ) → Bounded (length before) (sums_of d before) → length before ≤ 16384 → Slight o → AllByRecursion Modest (where_allowed w d before o)
   allowed_modest before None b l s = tt
   allowed_modest before (Some p) b l s = (record { height = omega (arith, ints, b.total, b.depth); penalty = s }, tt)
 
-  candidates_modest : (before after : List Item) → Within after → Bounded (length before) (sums_of d before) → length before + length after ≤ 16384 → All Modest (candidates w d before after)
+  candidates_modest : (before after : List Item) → Within after → Bounded (length before) (sums_of d before) → length before + length after ≤ 16384 → AllByRecursion Modest (candidates w d before after)
   candidates_modest before [] h b l = allowed_modest before (note_penalty before []) b (omega arith) (note_slight before [] h)
   candidates_modest before (x ∷ after) h b l =
       let n = length_push before x in

@@ -1,6 +1,6 @@
 -- The last item of a page, read in the table.
 use Rattle.std.proofs.Common.{◌≡◌, ℕ, suc, ◌-◌, ◌<◌, Bool, false, List, [], ◌∷◌, length, get_or, sym, refl, ap, ◌∙◌, arith}
-use Rattle.std.specs.List.{AllByRecursion as All}
+use Rattle.std.specs.List.{AllByRecursion}
 use Rattle.std.proofs.ByRecursion.{All-get_or}
 use Rattle.std.proofs.lemmas.List.{get_or-map, length-map}
 use Rattle.items.specs.declared.Item.{Item}
@@ -24,7 +24,7 @@ not_empty rows [] l = absurd (omega arith)
 not_empty rows (x ∷ page) l = refl
 
 module _ (rows : List Row) (page : List ℕ) (l : 0 < length page) where
-  pub last_inside : All (Inside rows) page → Inside rows (get_or page (length page - 1) 0)
+  pub last_inside : AllByRecursion (Inside rows) page → Inside rows (get_or page (length page - 1) 0)
   last_inside h = All-get_or (Inside rows) page (length page - 1) 0 (omega arith) h
 
   pub last_item : (p : Item → Bool) → last_is p (items_at rows page) ≡ p (item_at rows (get_or page (length page - 1) 0))

@@ -1,6 +1,6 @@
 -- What a page comes to: one more number, and what of the table it rests on.
 use Rattle.std.proofs.Common.{◌≡◌, ℕ, List, [], ◌∷◌, ◌++◌, fold, sym, refl, ap, ◌∙◌}
-use Rattle.std.specs.List.{AllByRecursion as All}
+use Rattle.std.specs.List.{AllByRecursion}
 use Rattle.std.proofs.lemmas.List.Sums.{fold_push}
 use Rattle.items.specs.declared.Item.{Item}
 use Rattle.items.specs.declared.Item.TheVariants.{Box, Glue, Kern, Penalty, Note}
@@ -33,9 +33,9 @@ module _ (g : Ground) (rows others : List Row) where
   next_same : (m : PageSoFar) (x : ℕ) → Alike rows others x → next g rows m x ≡ next g others m x
   next_same m x a = item_same m x a.left (item_at rows x) ∙ ap (with_item g others m x) a.item
 
-  all_same : (m : PageSoFar) (xs : List ℕ) → All (Alike rows others) xs → fold (next g rows) m xs ≡ fold (next g others) m xs
+  all_same : (m : PageSoFar) (xs : List ℕ) → AllByRecursion (Alike rows others) xs → fold (next g rows) m xs ≡ fold (next g others) m xs
   all_same m [] a = refl
   all_same m (x ∷ xs) a = all_same (next g rows m x) xs a.1 ∙ ap (λ k. fold (next g others) k xs) (next_same m x a.0)
 
-  pub so_far_same : (xs : List ℕ) → All (Alike rows others) xs → so_far g rows xs ≡ so_far g others xs
+  pub so_far_same : (xs : List ℕ) → AllByRecursion (Alike rows others) xs → so_far g rows xs ≡ so_far g others xs
   so_far_same xs a = all_same (fresh g) xs a

@@ -1,6 +1,6 @@
 -- What a page comes to does not rest on where rows lie or on their stamps, nor on rows fed later.
 use Rattle.std.proofs.Common.{◌≡◌, ℕ, zero, suc, ◌+◌, ◌-◌, ◌<◌, ◌≤◌, List, [], ◌∷◌, ◌++◌, map, length, get_or, sym, refl, ap, ◌∙◌, ⊎_elim, arith}
-use Rattle.std.specs.List.{AllByRecursion as All}
+use Rattle.std.specs.List.{AllByRecursion}
 use Rattle.std.proofs.ByRecursion.{All-weaker}
 use Rattle.std.proofs.lemmas.List.{get_or_append_left, get_or-set_same, get_or-set_other, set_past}
 use Rattle.std.proofs.lemmas.Bool.{cases_eq, cases_lt}
@@ -19,7 +19,7 @@ map_same : {A B : Type 0} (f h : A → B) → ((x : A) → f x ≡ h x) → (xs 
 map_same f h e [] = refl
 map_same f h e (x ∷ xs) = ap (λ y. y ∷ map f xs) (e x) ∙ ap (λ ys. h x ∷ ys) (map_same f h e xs)
 
-all_of : {A : Type 0} (P : A → Type 0) → ((x : A) → P x) → (xs : List A) → All P xs
+all_of : {A : Type 0} (P : A → Type 0) → ((x : A) → P x) → (xs : List A) → AllByRecursion P xs
 all_of P h [] = tt
 all_of P h (x ∷ xs) = (h x, all_of P h xs)
 
@@ -87,5 +87,5 @@ module _ (rows more : List Row) (t : WellFormed rows) where
           left = ap (λ r. items_at (rows ++ more) (content r.item x r.spent)) r ∙ content_fed (row_at rows x).spent (item_at rows x) refl;
         }
 
-  pub so_far_fed : (g : Ground) (xs : List ℕ) → All (Inside rows) xs → so_far g (rows ++ more) xs ≡ so_far g rows xs
+  pub so_far_fed : (g : Ground) (xs : List ℕ) → AllByRecursion (Inside rows) xs → so_far g (rows ++ more) xs ≡ so_far g rows xs
   so_far_fed g xs h = so_far_same g (rows ++ more) rows xs (All-weaker (Inside rows) (Alike (rows ++ more) rows) fed_alike xs h)

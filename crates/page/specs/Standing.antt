@@ -1,6 +1,6 @@
 -- What is asked of a page and of an item that arrives on it.
 use Rattle.std.specs.Prelude.{◌≡◌, ℕ, ◌^◌, ◌≤◌, true, List, length, unsigned_abs}
-use Rattle.std.specs.List.{AllByRecursion as All}
+use Rattle.std.specs.List.{AllByRecursion}
 use Rattle.items.specs.declared.Item.TheVariants.{Note}
 use Rattle.items.specs.declared.Row.{Row}
 use Rattle.items.specs.Limits.{settings_within, class_within}
@@ -12,8 +12,8 @@ use Rattle.page.specs.PageSoFar.{so_far}
 -- settings and classes are within their limits, and no shelf has more than the items of a table
 pub record Grounded (g : Ground) : Type 0 where
   pub settings : settings_within g.settings ≡ true
-  pub classes : All (λ c. class_within c ≡ true) g.classes
-  pub shelved : All (λ z. unsigned_abs z ≤ 2 ^ 45) g.shelved
+  pub classes : AllByRecursion (λ c. class_within c ≡ true) g.classes
+  pub shelved : AllByRecursion (λ z. unsigned_abs z ≤ 2 ^ 45) g.shelved
 
 pub record Inside (rows : List Row) (x : ℕ) : Type 0 where
   pub first : 1 ≤ x
@@ -24,7 +24,7 @@ pub record Standing (g : Ground) (rows : List Row) (page : List ℕ) (m : PageSo
   pub basis : Grounded g
   pub table : WellFormed rows
   pub short : length rows ≤ 16384
-  pub numbers : All (Inside rows) page
+  pub numbers : AllByRecursion (Inside rows) page
   pub few : length page ≤ 16384
   pub is : m ≡ so_far g rows page
 

@@ -1,6 +1,6 @@
 // Where the current page may break, and its best break.
 ghost use Rattle.std.specs.Prelude.{◌≡◌, ◌^◌, ◌<◌, ◌≤◌, ◌||◌, map, length, ◌<ℤ◌, Some, unsigned_abs};
-ghost use Rattle.std.specs.List.{AllByRecursion as All};
+ghost use Rattle.std.specs.List.{AllByRecursion};
 ghost use Rattle.items.specs.Items.{is_box, is_glue, is_note};
 ghost use Rattle.items.specs.Table.{items_at};
 ghost use Rattle.cost.specs.Cost.{forbidden};
@@ -57,7 +57,7 @@ fn is_solid(item: Item) -> bool
 
 impl Behind {
     fn of(page: &[u32], rows: &[Row]) -> Behind
-        requires numbers { All (Inside rows.now) page.now }
+        requires numbers { AllByRecursion (Inside rows.now) page.now }
         requires short { length rows.now ≤ 16384 }
         ensures vacant { result.vacant ≡ empty (items_at rows.now page.now) }
         ensures solid { result.solid ≡ last_is (λ y. is_box y || is_note y) (items_at rows.now page.now) }
@@ -108,7 +108,7 @@ pub struct Looked {
 impl PageSoFar {
     // The penalty of the place between the page and what follows it, if a break may be there.
     pub fn penalty(&self, page: &[u32], rows: &[Row], ahead: Ahead) -> Option<i32>
-        requires numbers { All (Inside rows.now) page.now }
+        requires numbers { AllByRecursion (Inside rows.now) page.now }
         requires short { length rows.now ≤ 16384 }
         ensures { result ≡ penalty_here self.now rows.now page.now ahead }
     {

@@ -1,6 +1,6 @@
 -- A table that passes a test row by row is well formed, and the galley passes it.
 use Rattle.std.proofs.Common.{◌≡◌, ℕ, zero, suc, ◌+◌, ◌-◌, ◌<◌, ◌≤◌, Bool, true, not, ◌&&◌, eqb, ltb, leb, List, [], ◌∷◌, length, get_or, sym, refl, subst, ⊎_elim, arith}
-use Rattle.std.specs.List.{AllByRecursion as All}
+use Rattle.std.specs.List.{AllByRecursion}
 use Rattle.std.proofs.ByRecursion.{All-get_or}
 use Rattle.std.proofs.lemmas.List.{get_or_past}
 use Rattle.std.proofs.lemmas.Bool.{and_from, and_parts, not-true, le-leb, eqb-true, leb-true, ltb-true, cases_eq, cases_lt}
@@ -91,7 +91,7 @@ module _ (rows : List Row) where
 pub galley_formed : WellFormed galley
 galley_formed = formed galley refl
 
-unspent : All (λ r. r.spent ≡ 0) galley
+unspent : AllByRecursion (λ r. r.spent ≡ 0) galley
 unspent = (refl, (refl, (refl, (refl, (refl, (refl, (refl, (refl, (refl, (refl, (refl, (refl, (refl, (refl, tt))))))))))))))
 
 pub galley_arriving : (x : ℕ) → Inside galley x → Arriving galley x

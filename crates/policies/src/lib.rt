@@ -1,7 +1,7 @@
 // Page policies: what is shipped, held back or returned of each fired page.
 #![tactic(auto)]
 
-ghost use Rattle.std.specs.Prelude.{◌≡◌, ℕ, ◌+◌, ◌^◌, ◌<◌, ◌≤◌, List, [], length, slice_index};
+ghost use Rattle.std.specs.Prelude.{◌≡◌, ℕ, ◌+◌, ◌^◌, ◌<◌, ◌≤◌, List, [], length, slice_index, SomeIff};
 ghost use Rattle.policies.specs.declared.Verdict.{Verdict};
 ghost use Rattle.policies.specs.Policies.{Given, Splits};
 
@@ -44,10 +44,9 @@ pub trait Policy {
         requires { length (held self.now) < 2 ^ 64 }
         ensures { result ≡ length (held self.now) };
 
-    // The k-th item held, counted from 0.
-    fn held_at(&self, k: usize) -> u32
-        requires { k < length (held self.now) }
-        ensures { result ≡ slice_index (held self.now) k };
+    // The k-th item held, counted from 0, if so many are held.
+    fn held_at(&self, k: usize) -> Option<u32>
+        ensures { SomeIff result (k < length (held self.now)) (slice_index (held self.now) k) };
 }
 
 impl Verdict {

@@ -66,7 +66,7 @@ fn check_held<P: Policy>(policy: &P, held: usize, fired: usize) -> Result<(), Fa
             "no more are held than fired",
         )?;
         check(
-            policy.held_at(k) as usize == fired - held + k + 1,
+            policy.held_at(k) == Some((fired - held + k + 1) as u32),
             "an item held",
         )?;
     }

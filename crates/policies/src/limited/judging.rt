@@ -107,7 +107,7 @@ impl<P: Policy> Policy for Limited<P> {
         self.below.held_count()
     }
 
-    fn held_at(&self, k: usize) -> u32 {
+    fn held_at(&self, k: usize) -> Option<u32> {
         self.below.held_at(k)
     }
 }

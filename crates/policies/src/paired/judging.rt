@@ -14,11 +14,9 @@ fn item_at<P: Policy>(below: &P, body: &[u32], k: usize) -> u32
     requires within { k < length (P.Policy.held below.now) + length body.now }
     ensures { result ≡ slice_index (P.Policy.held below.now ++ body.now) k }
 {
-    let held = below.held_count();
-    if k < held {
-        below.held_at(k)
-    } else {
-        body[k - held]
+    match below.held_at(k) {
+        Some(item) => item,
+        None => body[k - below.held_count()],
     }
 }
 
@@ -115,10 +113,10 @@ impl<P: Policy> Policy for Paired<P> {
         self.column_len() + self.below.held_count()
     }
 
-    fn held_at(&self, k: usize) -> u32 {
+    fn held_at(&self, k: usize) -> Option<u32> {
         let len = self.column_len();
         if k < len {
-            self.column[k]
+            Some(self.column[k])
         } else {
             self.below.held_at(k - len)
         }

@@ -1,6 +1,6 @@
 -- The galley is well formed, so that each number may arrive.
 use Rattle.std.proofs.Common.{◌≤◌, length, get_or, take, ap, ◌∙◌, subst, rules}
-use Rattle.std.specs.List.{AllByRecursion as All}
+use Rattle.std.specs.List.{AllByRecursion}
 use Rattle.std.proofs.lemmas.List.{take_all}
 use Rattle.page.specs.PageSoFar.{so_far}
 use Rattle.page.specs.Standing.{Inside}
@@ -35,4 +35,4 @@ returns c =
     let numbers = c.args.numbers.now in
     let few : length numbers ≤ 8 = search rules in
     let all = take_all c.loop-x.x-index numbers c.loop-x-test.false in
-    standing g c.requires c.loop-x.page numbers few (subst (All (Inside galley)) all c.loop-x.invariant.1) (c.loop-x.invariant.0 ∙ ap (so_far g galley) all)
+    standing g c.requires c.loop-x.page numbers few (subst (AllByRecursion (Inside galley)) all c.loop-x.invariant.1) (c.loop-x.invariant.0 ∙ ap (so_far g galley) all)

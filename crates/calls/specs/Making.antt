@@ -1,5 +1,5 @@
 -- Making a book.
-use Rattle.std.specs.Prelude.{ℕ, Bool, false, cond, ◌&&◌, leb, List, [], length, replicate, Some, None, Option, ◌==◌, nat_le}
+use Rattle.std.specs.Prelude.{ℕ, Bool, false, cond, ◌&&◌, List, [], length, replicate, Some, None, Option, ◌==◌, nat_le}
 use Rattle.std.specs.List.{list_all}
 use Rattle.items.specs.declared.Settings.{Settings}
 use Rattle.items.specs.declared.Class.{Class}
@@ -26,7 +26,7 @@ empty_book s cs = record {
 
 -- 1 to 16,384 rows, and no other table shorter than they are
 abbrev pub tables_within : ℕ → List ℕ → Bool
-tables_within rows others = nat_le 1 rows && nat_le rows 16384 && list_all (leb rows) others
+tables_within rows others = nat_le 1 rows && nat_le rows 16384 && list_all (nat_le rows) others
 
 -- what a making takes: the tables' lengths, the settings and the eight classes within their limits
 abbrev pub acceptable : ℕ → List ℕ → Settings → List Class → Bool

@@ -31,7 +31,7 @@ pub trait Policy {
     fn judge(&mut self, body: &[u32], shelved: &[u32; 8], penalty: i32, rows: &[Row]) -> Verdict
         requires { length (held self.old) + length body.now ≤ 16384 }
         ensures nothing_lost { Splits (held self.old) body.now (held self.new) result }
-        ensures by_its_rule { rule self.old (record { body = body.entry.now; shelved = shelved.now; penalty = penalty; rows = rows.now }) result self.new };
+        ensures by_its_rule { rule self.old (record { body = body.now; shelved = shelved.now; penalty = penalty; rows = rows.now }) result self.new };
 
     // Lets go of all that is held, and answers how many items that is.
     fn release(&mut self) -> usize

@@ -1,5 +1,5 @@
 -- A ring queue's entries stand in the cells that its places name; each place is that of one entry.
-use Rattle.std.proofs.Common.{◌≡◌, ℕ, zero, suc, ◌+◌, ◌-◌, ◌<◌, ◌≤◌, true, false, ltb, ◌≢◌, ◌⊎◌, List, [], ◌∷◌, ◌++◌, length, get_or, take, drop, set, sym, ap, ◌∙◌, inl, inr, arith}
+use Rattle.std.proofs.Common.{◌≡◌, ℕ, zero, suc, ◌+◌, ◌-◌, ◌<◌, ◌≤◌, true, false, ltb, ◌≢◌, ◌⊎◌, List, [], ◌∷◌, ◌++◌, length, get_or, take, drop, set, sym, ap, ◌∙◌, ap₂, inl, inr, arith}
 use Rattle.std.proofs.lemmas.List.{length-append, length-drop, length-take-le, length-set, length_push, get_or-take, get_or-drop, get_or_append_left, get_or-append_right, get_or-set_same, get_or-set_other, get_or_push, get_or_default, same_lists}
 use Rattle.std.proofs.lemmas.Bool.{cases_lt, cases_eq, lt-ltb, le-ltb}
 use Rattle.std.proofs.lemmas.Bool.Decides.{nat_tests}
@@ -177,3 +177,8 @@ module _ {T : Type 0} where
       go : (xs : List T) → Within q xs → list_of (record { head = next (length xs) q.head; len = q.len - 1 }) xs ≡ drop 1 (list_of q xs)
       go [] u = absurd (omega (arith, u.head))
       go (x ∷ xs) u = sym (ap (drop 1) (popped q (x ∷ xs) x u l))
+
+  -- the entries that begin at the next cell
+  pub rest_at : (cells : List T) (a l h n : ℕ) → h ≡ next (length cells) a → n ≡ l - 1 → Within (record { head = a; len = l }) cells → 0 < l →
+      list_of (record { head = h; len = n }) cells ≡ drop 1 (list_of (record { head = a; len = l }) cells)
+  rest_at cells a l h n e f w o = ap₂ (λ h n. list_of (record { head = h; len = n }) cells) e f ∙ rest_is (record { head = a; len = l }) cells w o

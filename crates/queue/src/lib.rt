@@ -70,6 +70,7 @@ fn write_before<T: Copy>(queue: Queue, cells: &mut [T], x: T) -> usize
 }
 
 // The queue without its first entry.
+#[tactic(auto, using(crate::proofs::Rings::rest_at))]
 fn rest<T: Copy>(queue: Queue, cells: &[T]) -> Queue
     requires within { Within queue cells.now }
     requires some { 0 < queue.len }

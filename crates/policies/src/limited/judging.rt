@@ -54,7 +54,7 @@ impl<P: Policy> Limited<P> {
         requires { length (P.Policy.held self.old.below) + length body.now ≤ 16384 }
         ensures counts_kept { (self.new.count ≡ self.old.count) × (self.new.bound ≡ self.old.bound) }
         ensures nothing_lost { Splits (P.Policy.held self.old.below) body.now (P.Policy.held self.new.below) result }
-        ensures by_its_rule { P.Policy.rule self.old.below (record { body = body.entry.now; shelved = shelved.now; penalty = penalty; rows = rows.now }) result self.new.below }
+        ensures by_its_rule { P.Policy.rule self.old.below (record { body = body.now; shelved = shelved.now; penalty = penalty; rows = rows.now }) result self.new.below }
         ensures asks { (l m : Limited P) (g : Given) → l.count < l.bound → P.Policy.rule l.below g result m.below → m.bound ≡ l.bound → m.count ≡ (if ships_nothing g result then l.count + 1 else 0) → LimitedRule P.Policy.held P.Policy.rule l g result m }
     {
         self.below.judge(body, shelved, penalty, rows)

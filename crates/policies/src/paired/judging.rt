@@ -61,7 +61,7 @@ impl<P: Policy> Paired<P> {
     fn ask(&mut self, body: &[u32], shelved: &[u32; 8], penalty: i32, rows: &[Row]) -> Verdict
         requires { length (held_by_paired P.Policy.held P.Policy.rule self.old) + length body.now ≤ 16384 }
         ensures column_kept { (self.new.len ≡ self.old.len) × (self.new.column ≡ self.old.column) }
-        ensures by_its_rule { P.Policy.rule self.old.below (record { body = body.entry.now; shelved = shelved.now; penalty = penalty; rows = rows.now }) result self.new.below }
+        ensures by_its_rule { P.Policy.rule self.old.below (record { body = body.now; shelved = shelved.now; penalty = penalty; rows = rows.now }) result self.new.below }
         ensures within { self.old.len + (result.shipped + result.held) ≤ 16384 }
         ensures column_aside { Splits (P.Policy.held self.old.below) body.now (shipped_of (P.Policy.held self.old.below ++ body.now) result ++ P.Policy.held self.new.below) (record { shipped = 0; held = result.shipped + result.held; classes = no_class }) }
         ensures column_first { Splits (held_by_paired P.Policy.held P.Policy.rule self.old) body.now (P.Policy.held self.new.below) (record { shipped = self.old.len + result.shipped; held = result.held; classes = result.classes }) }

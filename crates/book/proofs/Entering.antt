@@ -4,102 +4,68 @@ use Rattle.std.specs.List.{AllByRecursion}
 use Rattle.std.proofs.lemmas.List.{length-take-le, length_push}
 use Rattle.items.specs.declared.Item.{Item}
 use Rattle.items.specs.declared.Row.{Row}
-use Rattle.items.specs.declared.Piece.{Piece}
 use Rattle.queue.specs.declared.Queue.{Queue}
 use Rattle.queue.specs.Queues.{Within, list_of}
 use Rattle.queue.proofs.Rings.{list_length}
-use Rattle.calls.specs.declared.Page.{Page}
-use Rattle.calls.specs.Book.{Book}
 use Rattle.calls.specs.Feeding.{content_for, refusal, fed_rows, fed_book}
 use Rattle.calls.specs.Runs.{Reached}
 use Rattle.calls.proofs.Reaching.{reached_fed}
 use Rattle.book.specs.declared.Open.{Open}
-use Rattle.book.specs.View.{Tables, lent, book_of, Fit, Kept}
+use Rattle.book.specs.View.{Contents, book_of, Fit, Kept}
 
--- the turn with so many rows and such contributions
-abbrev pub entered : Open → ℕ → Queue → Open
-entered o rows q = record {
-  settings = o.settings;
-  classes = o.classes;
-  rows = rows;
-  contributions = q;
-  page = o.page;
-  best = o.best;
-  shelves = o.shelves;
-  shipped = o.shipped;
-  pages = o.pages;
-  firings = o.firings;
-  closed = o.closed;
-  done = o.done;
-}
+module _ (o : Open) (before : Contents) (rows' : List Row) (contributions' : List ℕ) (x : Item) (content : List Item) (q : Queue) (n : ℕ)
+    (used : o.rows ≤ length before.rows) (count : n ≡ length (content_for x content))
+    (written : take (o.rows + 1 + length (content_for x content)) rows' ≡ take o.rows before.rows ++ fed_rows (o.rows + 1) x content)
+    (queued : list_of q contributions' ≡ list_of o.contributions before.contributions ++ (o.rows + 1) ∷ []) where
+  number_is : o.rows + 1 ≡ length (take o.rows before.rows) + 1
+  number_is = ap (λ k. k + 1) (sym (length-take-le o.rows before.rows used))
 
-abbrev with : Book → List Row → List ℕ → Book
-with b rows contributions = record {
-  settings = b.settings;
-  classes = b.classes;
-  rows = rows;
-  contributions = contributions;
-  page = b.page;
-  best = b.best;
-  shelves = b.shelves;
-  shipped = b.shipped;
-  pages = b.pages;
-  firings = b.firings;
-  closed = b.closed;
-  done = b.done;
-}
+  rows_are : take (o.rows + (1 + n)) rows' ≡ take o.rows before.rows ++ fed_rows (length (take o.rows before.rows) + 1) x content
+  rows_are = ap (λ k. take k rows') (omega arith) ∙ written ∙ ap (λ k. take o.rows before.rows ++ fed_rows k x content) number_is
 
-module _ (o : Open) (rows rows' : List Row) (contributions contributions' : List ℕ) (x : Item) (content : List Item) (q : Queue) (n : ℕ)
-    (used : o.rows ≤ length rows) (count : n ≡ length (content_for x content))
-    (written : take (o.rows + 1 + length (content_for x content)) rows' ≡ take o.rows rows ++ fed_rows (o.rows + 1) x content)
-    (queued : list_of q contributions' ≡ list_of o.contributions contributions ++ (o.rows + 1) ∷ []) where
-  pub number_is : o.rows + 1 ≡ length (take o.rows rows) + 1
-  number_is = ap (λ k. k + 1) (sym (length-take-le o.rows rows used))
+  -- the turn, and the tables that it leaves
+  abbrev entered : Open
+  entered = record o { rows = o.rows + (1 + n); contributions = q }
 
-  rows_are : take (o.rows + 1 + n) rows' ≡ take o.rows rows ++ fed_rows (length (take o.rows rows) + 1) x content
-  rows_are = ap (λ k. take (o.rows + 1 + k) rows') count ∙ written ∙ ap (λ k. take o.rows rows ++ fed_rows k x content) number_is
+  abbrev after : Contents
+  after = record before { rows = rows'; contributions = contributions' }
 
-  module _ (page waiting shipped : List ℕ) (pages : List Page) (shelves : List (List Piece)) where
-    abbrev before : Tables
-    before = lent rows contributions page waiting shipped pages shelves
+  pub fed_is : book_of entered after ≡ fed_book (book_of o before) x content
+  fed_is =
+      ap₂ (λ rows contributions. record (book_of o before) { rows = rows; contributions = contributions }) rows_are
+      (queued ∙ ap (λ k. list_of o.contributions before.contributions ++ k ∷ []) number_is)
 
-    abbrev after : Tables
-    after = lent rows' contributions' page waiting shipped pages shelves
+  module _ (long : length rows' ≡ length before.rows) (long_contributions : length contributions' ≡ length before.contributions) (within : Within q contributions')
+      (room : o.rows + 1 + length (content_for x content) ≤ length before.rows) (none : refusal (length before.rows) (book_of o before) x content ≡ None) (k : Kept o before) where
+    fits : Fit after
+    fits = let t = k.tables in record {
+      some = omega (arith, t.some);
+      few = omega (arith, t.few);
+      contributions = omega (arith, t.contributions);
+      page = omega (arith, t.page);
+      waiting = omega (arith, t.waiting);
+      shipped = omega (arith, t.shipped);
+      pages = omega (arith, t.pages);
+      shelves = subst (λ n. AllByRecursion (λ s. n ≤ length s) before.shelves) (sym long) t.shelves;
+      eight = t.eight;
+    }
 
-    pub fed_is : book_of (entered o (o.rows + 1 + n) q) after ≡ fed_book (book_of o before) x content
-    fed_is = ap₂ (with (book_of o before)) rows_are (queued ∙ ap (λ k. list_of o.contributions contributions ++ k ∷ []) number_is)
+    one_more : q.len ≡ o.contributions.len + 1
+    one_more = sym (list_length q contributions' within) ∙ ap length queued ∙ length_push (list_of o.contributions before.contributions) (o.rows + 1) ∙
+        ap (λ n. n + 1) (list_length o.contributions before.contributions k.waits)
 
-    module _ (long : length rows' ≡ length rows) (long_contributions : length contributions' ≡ length contributions) (within : Within q contributions')
-        (room : o.rows + 1 + length (content_for x content) ≤ length rows) (none : refusal (length rows) (book_of o before) x content ≡ None) (k : Kept o before) where
-      fits : Fit after
-      fits = let t = k.tables in record {
-        some = omega (arith, t.some);
-        few = omega (arith, t.few);
-        contributions = omega (arith, t.contributions);
-        page = omega (arith, t.page);
-        waiting = omega (arith, t.waiting);
-        shipped = omega (arith, t.shipped);
-        pages = omega (arith, t.pages);
-        shelves = subst (λ n. AllByRecursion (λ s. n ≤ length s) shelves) (sym long) t.shelves;
-        eight = t.eight;
-      }
-
-      one_more : q.len ≡ o.contributions.len + 1
-      one_more = sym (list_length q contributions' within) ∙ ap length queued ∙ length_push (list_of o.contributions contributions) (o.rows + 1) ∙
-          ap (λ n. n + 1) (list_length o.contributions contributions k.waits)
-
-      pub kept_then : Kept (entered o (o.rows + 1 + n) q) after
-      kept_then = record {
-        tables = fits;
-        settings = k.settings;
-        classes = k.classes;
-        eight = k.eight;
-        used = omega arith;
-        waits = within;
-        owed = omega (arith, one_more, k.owed);
-        shipped = omega (arith, k.shipped);
-        pages = k.pages;
-        shelved = k.shelved;
-        reached = subst (λ l. Reached l (book_of (entered o (o.rows + 1 + n) q) after)) (sym long)
-            (subst (Reached (length rows)) (sym fed_is) (reached_fed (length rows) (book_of o before) x content none k.reached));
-      }
+    pub kept_then : Kept entered after
+    kept_then = record {
+      tables = fits;
+      settings = k.settings;
+      classes = k.classes;
+      eight = k.eight;
+      used = omega arith;
+      waits = within;
+      owed = omega (arith, one_more, k.owed);
+      shipped = omega (arith, k.shipped);
+      pages = k.pages;
+      shelved = k.shelved;
+      reached = subst (λ l. Reached l (book_of entered after)) (sym long)
+          (subst (Reached (length before.rows)) (sym fed_is) (reached_fed (length before.rows) (book_of o before) x content none k.reached));
+    }

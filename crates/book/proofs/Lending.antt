@@ -1,19 +1,18 @@
 -- What tables within their limits are, and that they keep an empty book.
-use Rattle.std.proofs.Common.{◌≡◌, ℕ, zero, suc, ◌≤◌, Bool, true, false, ◌&&◌, eqb, leb, List, [], ◌∷◌, map, length, replicate, None, sym, refl, ap, ◌∙◌, subst, arith}
+use Rattle.std.proofs.Common.{◌≡◌, ℕ, zero, suc, ◌≤◌, Bool, true, ◌&&◌, leb, List, [], ◌∷◌, map, length, replicate, None, Option, sym, refl, ap, subst, arith}
 use Rattle.std.specs.List.{AllByRecursion, list_all}
 use Rattle.std.proofs.lemmas.Bool.{and_parts, leb-true, eq-eqb}
 use Rattle.items.specs.declared.Settings.{Settings}
 use Rattle.items.specs.declared.Class.{Class}
 use Rattle.items.specs.declared.Piece.{Piece}
-use Rattle.items.specs.Limits.{settings_within, class_within}
-use Rattle.queue.specs.declared.Queue.{Queue}
+use Rattle.items.specs.Limits.{settings_within, declared_within}
 use Rattle.queue.specs.Queues.{none}
-use Rattle.calls.specs.Book.{Book}
 use Rattle.calls.specs.Runs.{Reached}
 use Rattle.calls.proofs.Reaching.{reached_made}
-use Rattle.calls.specs.Making.{empty_book, tables_within, acceptable, making_refusal}
+use Rattle.calls.specs.Making.{empty_book, tables_within, acceptable}
 use Rattle.book.specs.declared.Open.{Open}
-use Rattle.book.specs.View.{Tables, lengths_of, shelves_of, ShelvesWithin, book_of, Fit, Kept}
+use Rattle.book.specs.declared.Phase.TheVariants.{Feeding}
+use Rattle.book.specs.View.{Contents, lengths_of, shelves_of, ShelvesWithin, book_of, Fit, Kept}
 
 pass_each : {A : Type 0} (p : A → Bool) (P : A → Type 0) → ((x : A) → p x ≡ true → P x) → (xs : List A) → list_all p xs ≡ true → AllByRecursion P xs
 pass_each p P f [] h = tt
@@ -23,7 +22,7 @@ lengths : {A : Type 0} (n : ℕ) (xss : List (List A)) → AllByRecursion (λ l.
 lengths n [] h = tt
 lengths n (xs ∷ xss) h = (h.0, lengths n xss h.1)
 
-fit : (t : Tables) → tables_within (length t.rows) (lengths_of t) ≡ true → length t.shelves ≡ 8 → Fit t
+fit : (t : Contents) → tables_within (length t.rows) (lengths_of t) ≡ true → length t.shelves ≡ 8 → Fit t
 fit t h eight =
     let n = length t.rows in
     let k = and_parts (leb 1 n && leb n 16384) (list_all (leb n) (lengths_of t)) h in
@@ -41,19 +40,10 @@ fit t h eight =
       eight = eight;
     }
 
-acceptable_is : (n : ℕ) (others : List ℕ) (s : Settings) (cs : List Class) → tables_within n others ≡ true → settings_within s ≡ true → length cs ≡ 8 →
-    list_all class_within cs ≡ true → acceptable n others s cs ≡ true
-acceptable_is n others s cs ht hs hl hc =
-    and_whole (tables_within n others && settings_within s && eqb (length cs) 8) (list_all class_within cs)
-    (and_whole (tables_within n others && settings_within s) (eqb (length cs) 8) (and_whole (tables_within n others) (settings_within s) ht hs) (eq-eqb (length cs) 8 hl)) hc
-  where
-    and_whole : (a b : Bool) → a ≡ true → b ≡ true → (a && b) ≡ true
-    and_whole a b e f = ap (λ a. a && b) e ∙ f
-
--- tables, settings and classes within their limits are not refused
-pub accepted : (n : ℕ) (others : List ℕ) (s : Settings) (cs : List Class) → tables_within n others ≡ true → settings_within s ≡ true → length cs ≡ 8 → list_all class_within cs ≡ true →
-    making_refusal n others s cs ≡ None
-accepted n others s cs ht hs hl hc = let e = acceptable_is n others s cs ht hs hl hc in rw e
+-- tables, settings and classes within their limits are accepted
+pub accepted : (n : ℕ) (others : List ℕ) (s : Settings) (cs : List (Option Class)) → tables_within n others ≡ true → settings_within s ≡ true → length cs ≡ 8 →
+    list_all declared_within cs ≡ true → acceptable n others s cs ≡ true
+accepted n others s cs ht hs hl hc = let e = eq-eqb (length cs) 8 hl in grind arith
 
 shelves_within : (n k : ℕ) (cells : List (List Piece)) → 1 ≤ n → length cells ≡ k → AllByRecursion (λ c. n ≤ length c) cells → ShelvesWithin (replicate k none) cells
 shelves_within n zero [] some e h = tt
@@ -61,20 +51,19 @@ shelves_within n zero (c ∷ cells) some e h = absurd (omega arith)
 shelves_within n (suc k) [] some e h = absurd (omega arith)
 shelves_within n (suc k) (c ∷ cells) some e h = (record { head = omega (arith, h.0); len = omega arith }, shelves_within n k cells some (omega arith) h.1)
 
-abbrev pub empty_open : Settings → List Class → Queue → Open
-empty_open s cs q = record {
+abbrev empty_open : Settings → List (Option Class) → Open
+empty_open s cs = record {
   settings = s;
   classes = cs;
   rows = 0;
-  contributions = q;
+  contributions = none;
   page = 0;
   best = None;
-  shelves = replicate 8 q;
+  shelves = replicate 8 none;
   shipped = 0;
   pages = 0;
   firings = 0;
-  closed = false;
-  done = false;
+  phase = Feeding;
 }
 
 shelves_empty : (k : ℕ) (cells : List (List Piece)) → shelves_of (replicate k none) cells ≡ replicate k []
@@ -82,30 +71,13 @@ shelves_empty zero cells = refl
 shelves_empty (suc k) [] = ap (λ l. [] ∷ l) (shelves_empty k [])
 shelves_empty (suc k) (c ∷ cells) = ap (λ l. [] ∷ l) (shelves_empty k cells)
 
-module _ (s : Settings) (cs : List Class) (t : Tables) where
-  pub empty_book_lem : (q : Queue) → q ≡ none → book_of (empty_open s cs q) t ≡ empty_book s cs
-  empty_book_lem q e = ap (λ q. book_of (empty_open s cs q) t) e ∙ ap (λ (l : List (List Piece)). of l) (shelves_empty 8 t.shelves)
-    where
-      of : List (List Piece) → Book
-      of l = record {
-        settings = s;
-        classes = cs;
-        rows = [];
-        contributions = [];
-        page = [];
-        best = None;
-        shelves = l;
-        shipped = [];
-        pages = [];
-        firings = 0;
-        closed = false;
-        done = false;
-      }
+module _ (s : Settings) (cs : List (Option Class)) (t : Contents) where
+  pub empty_is : book_of (empty_open s cs) t ≡ empty_book s cs
+  empty_is = ap (λ (l : List (List Piece)). record (empty_book s cs) { shelves = l }) (shelves_empty 8 t.shelves)
 
-  pub empty_kept : (q : Queue) → q ≡ none → settings_within s ≡ true → list_all class_within cs ≡ true →
-      length cs ≡ 8 → tables_within (length t.rows) (lengths_of t) ≡ true → length t.shelves ≡ 8 → Kept (empty_open s cs q) t
-  empty_kept q e hs hc hl ht he = subst (λ q. Kept (empty_open s cs q) t) (sym e)
-      (let f = fit t ht he in
+  pub empty_kept : settings_within s ≡ true → list_all declared_within cs ≡ true → length cs ≡ 8 → tables_within (length t.rows) (lengths_of t) ≡ true → length t.shelves ≡ 8 → Kept (empty_open s cs) t
+  empty_kept hs hc hl ht he =
+      let f = fit t ht he in
       record {
         tables = f;
         settings = hs;
@@ -117,7 +89,5 @@ module _ (s : Settings) (cs : List Class) (t : Tables) where
         shipped = omega arith;
         pages = omega arith;
         shelved = shelves_within (length t.rows) 8 t.shelves f.some he f.shelves;
-        reached =
-            subst (Reached (length t.rows)) (sym (empty_book_lem none refl))
-            (reached_made (length t.rows) (lengths_of t) s cs (acceptable_is (length t.rows) (lengths_of t) s cs ht hs hl hc));
-      })
+        reached = subst (Reached (length t.rows)) (sym empty_is) (reached_made (length t.rows) (lengths_of t) s cs (accepted (length t.rows) (lengths_of t) s cs ht hs hl hc));
+      }

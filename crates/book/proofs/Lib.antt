@@ -1,4 +1,4 @@
-pub mod Passing
+pub mod Closing
 pub mod Lending
 pub mod Writing
 pub mod Entering

@@ -1,18 +1,22 @@
 -- A book over the tables that are lent to its calls.
-use Rattle.std.specs.Prelude.{◌≡◌, ℕ, ◌+◌, ◌≤◌, true, List, [], ◌∷◌, map, length, take}
+use Rattle.std.specs.Prelude.{◌≡◌, ℕ, ◌+◌, ◌≤◌, Bool, true, false, List, [], ◌∷◌, map, length, take}
+use Rattle.std.specs.Borrow.{MutBor}
 use Rattle.std.specs.List.{AllByRecursion, list_all}
 use Rattle.items.specs.declared.Row.{Row}
 use Rattle.items.specs.declared.Piece.{Piece}
-use Rattle.items.specs.Limits.{settings_within, class_within}
+use Rattle.items.specs.Limits.{settings_within, declared_within}
 use Rattle.queue.specs.declared.Queue.{Queue}
 use Rattle.queue.specs.Queues.{Within, list_of}
 use Rattle.calls.specs.declared.Page.{Page}
 use Rattle.calls.specs.Book.{Book}
 use Rattle.calls.specs.Runs.{Reached}
 use Rattle.book.specs.declared.Open.{Open}
+use Rattle.book.specs.declared.Phase.{Phase}
+use Rattle.book.specs.declared.Phase.TheVariants.{Feeding, Closed, Done}
+use Rattle.book.specs.declared.Tables.{Tables}
 
--- the lent tables, cell by cell
-pub record Tables : Type 0 where
+-- what stands in the lent tables and on the lent shelves, cell by cell
+pub record Contents : Type 0 where
   pub rows : List Row
   pub contributions : List ℕ
   pub page : List ℕ
@@ -21,12 +25,35 @@ pub record Tables : Type 0 where
   pub pages : List Page
   pub shelves : List (List Piece)
 
-abbrev pub lent : List Row → List ℕ → List ℕ → List ℕ → List ℕ → List Page → List (List Piece) → Tables
-lent rows contributions page waiting shipped pages shelves =
-    record { rows = rows; contributions = contributions; page = page; waiting = waiting; shipped = shipped; pages = pages; shelves = shelves }
+abbrev pub contents_of : Tables → List (MutBor (List Piece)) → Contents
+contents_of t shelves = record {
+  rows = t.rows.now;
+  contributions = t.contributions.now;
+  page = t.page.now;
+  waiting = t.waiting.now;
+  shipped = t.shipped.now;
+  pages = t.pages.now;
+  shelves = map (λ s. s.now) shelves;
+}
+
+-- the same slices are lent, whatever stands in them
+pub record StillLent (old new : Tables) : Type 0 where
+  pub rows : new.rows.ghost_name ≡ old.rows.ghost_name
+  pub contributions : new.contributions.ghost_name ≡ old.contributions.ghost_name
+  pub page : new.page.ghost_name ≡ old.page.ghost_name
+  pub waiting : new.waiting.ghost_name ≡ old.waiting.ghost_name
+  pub shipped : new.shipped.ghost_name ≡ old.shipped.ghost_name
+  pub pages : new.pages.ghost_name ≡ old.pages.ghost_name
+
+-- of the tables only rows and contributions may have changed
+pub record OthersUntouched (old new : Tables) : Type 0 where
+  pub page : new.page.now ≡ old.page.now
+  pub waiting : new.waiting.now ≡ old.waiting.now
+  pub shipped : new.shipped.now ≡ old.shipped.now
+  pub pages : new.pages.now ≡ old.pages.now
 
 -- how long the tables beside the rows are
-abbrev pub lengths_of : Tables → List ℕ
+abbrev pub lengths_of : Contents → List ℕ
 lengths_of t = length t.contributions ∷ length t.page ∷ length t.waiting ∷ length t.shipped ∷ length t.pages ∷ map length t.shelves
 
 -- what is on the shelves
@@ -41,7 +68,17 @@ ShelvesWithin [] (c ∷ cs) = ⊥
 ShelvesWithin (q ∷ qs) [] = ⊥
 ShelvesWithin (q ∷ qs) (c ∷ cs) = Within q c × ShelvesWithin qs cs
 
-abbrev pub book_of : Open → Tables → Book
+abbrev pub is_closed : Phase → Bool
+is_closed Feeding = false
+is_closed Closed = true
+is_closed Done = true
+
+abbrev pub is_done : Phase → Bool
+is_done Feeding = false
+is_done Closed = false
+is_done Done = true
+
+abbrev pub book_of : Open → Contents → Book
 book_of o t = record {
   settings = o.settings;
   classes = o.classes;
@@ -53,12 +90,12 @@ book_of o t = record {
   shipped = take o.shipped t.shipped;
   pages = take o.pages t.pages;
   firings = o.firings;
-  closed = o.closed;
-  done = o.done;
+  closed = is_closed o.phase;
+  done = is_done o.phase;
 }
 
 -- 1 to 16,384 rows, and no other table shorter than they are
-pub record Fit (t : Tables) : Type 0 where
+pub record Fit (t : Contents) : Type 0 where
   pub some : 1 ≤ length t.rows
   pub few : length t.rows ≤ 16384
   pub contributions : length t.rows ≤ length t.contributions
@@ -70,10 +107,10 @@ pub record Fit (t : Tables) : Type 0 where
   pub eight : length t.shelves ≡ 8
 
 -- the tables are those that the book was made over, as a list of calls left them; what is in use lies within them
-pub record Kept (o : Open) (t : Tables) : Type 0 where
+pub record Kept (o : Open) (t : Contents) : Type 0 where
   pub tables : Fit t
   pub settings : settings_within o.settings ≡ true
-  pub classes : list_all class_within o.classes ≡ true
+  pub classes : list_all declared_within o.classes ≡ true
   pub eight : length o.classes ≡ 8
   pub used : o.rows ≤ length t.rows
   pub waits : Within o.contributions t.contributions

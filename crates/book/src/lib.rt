@@ -1,19 +1,40 @@
-// A book between its calls. Its tables are lent at each call, always the same ones and in one order: item rows,
-// contributions, page, waiting notes, shipped numbers, pages and the shelves.
+// A book between its calls. Its tables and shelves are lent at each call, always the same ones.
 #![tactic(auto)]
 
 pub mod feeding;
 pub mod making;
 
-use items::{Class, Settings};
+use calls::Page;
+use items::{Class, Row, Settings};
 use page::breaks::PageBreak;
 use queue::Queue;
 
-// An open book: how much of each table is in use, and what no table has.
+// The tables that a book is over. The shelves are lent beside them: a call that lends an array of slices together
+// with another field is not covered by the borrow checker.
+#[derive(Drop)]
+pub struct Tables<'a> {
+    pub rows: &'a mut [Row],
+    pub contributions: &'a mut [u32],
+    pub page: &'a mut [u32],
+    pub waiting: &'a mut [u32],
+    pub shipped: &'a mut [u32],
+    pub pages: &'a mut [Page],
+}
+
+// How far a book is: it can be fed, it is closed, or its last firing is settled.
+#[derive(Clone, Copy, PartialEq, Eq, Debug)]
+pub enum Phase {
+    Feeding,
+    Closed,
+    Done,
+}
+
+// An open book: how much of each table is in use, and what no table has. What is declared of the classes and their
+// shelves' queues are arrays of their own, as the one is given and never changes.
 #[derive(Drop)]
 pub struct Open {
     settings: Settings,
-    classes: [Class; 8],
+    classes: [Option<Class>; 8],
     rows: usize,
     contributions: Queue,
     page: usize,
@@ -22,16 +43,22 @@ pub struct Open {
     shipped: usize,
     pages: usize,
     firings: u32,
-    closed: bool,
-    done: bool,
+    phase: Phase,
 }
 
-// A book whose page is fired: it can only be settled, and must be, so it is no `Drop`. The body stands in the
-// page's table; `last` marks the last firing, of an empty page on a closed book.
+// What is fired: a page, whose body stands in the page's table, or the last firing, of an empty page on a closed book.
+#[derive(Clone, Copy, PartialEq, Eq, Debug)]
+pub enum Firing {
+    Page {
+        body: usize,
+        waiting: usize,
+        penalty: i32,
+    },
+    Last,
+}
+
+// A book whose page is fired: it can only be settled, and must be, so it is no `Drop`.
 pub struct Fired {
     book: Open,
-    body: usize,
-    waiting: usize,
-    penalty: i32,
-    last: bool,
+    firing: Firing,
 }

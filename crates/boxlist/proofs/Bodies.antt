@@ -1,6 +1,7 @@
 -- A record as its mark, its signed values and its numbers, in the order in which they are read.
 use Rattle.std.proofs.Common.{◌≡◌, ℕ, List, [], ◌∷◌, ◌++◌, map, length, get_or, ℤ, pos, Some, None, Option, sym, refl, ap, ◌∙◌, subst, arith}
 use Rattle.std.proofs.ByRecursion.{All-append, All-map}
+use Rattle.std.proofs.lemmas.Grind.{flat_map-append}
 use Rattle.std.proofs.lemmas.Slice.Eq.{text_from_reads}
 use Rattle.std.proofs.lemmas.List.{append-nil, nil_from_length}
 use Rattle.std.specs.List.{flat_map, AllByRecursion}
@@ -11,10 +12,10 @@ use Rattle.boxlist.specs.declared.marks.Mark.TheVariants.{St, Cl, Bx, Gl, Kn, Pn
 use Rattle.boxlist.specs.declared.records.Record.{Record}
 use Rattle.boxlist.specs.declared.records.Record.TheVariants.{Settings, Class, Box, Glue, Kern, Penalty, Note, End}
 use Rattle.boxlist.specs.Marks.{letters_of}
-use Rattle.boxlist.specs.Parts.{Exactly, fields, NoDigit, small}
+use Rattle.boxlist.specs.Parts.{Behind, Exactly, fields, MadeOf, NoDigit, small}
 use Rattle.boxlist.specs.Texts.{field, mark_of, values_of, text_of, Fits, Small}
-use Rattle.boxlist.proofs.Fields.{ends_before, joined_append}
-use Rattle.boxlist.proofs.Sequences.{first_fails, then, made, nothing}
+use Rattle.boxlist.proofs.Fields.{ends_before}
+use Rattle.boxlist.proofs.Sequences.{then, made, nothing}
 
 abbrev pub rebuilt : Mark → List ℤ → List ℕ → Record
 rebuilt St zs ns = Settings (get_or ns 0 0) (get_or ns 1 0) (get_or ns 2 0) (get_or ns 3 0) (get_or ns 4 0)
@@ -120,10 +121,6 @@ rebuilt_mark Pn zs ns = refl
 rebuilt_mark Nt zs ns = refl
 rebuilt_mark En zs ns = refl
 
--- o is the record of the mark m whose values stand at s
-abbrev Behind : Mark → Cursor → Cursor → Option Record → Type 0
-Behind m s t o = Exactly (λ r. flat_map field (values_of r)) (λ r. (mark_of r ≡ m) × Fits r) s t o
-
 -- the values behind a mark
 abbrev Values : Type 0
 Values = List ℤ × List ℕ
@@ -138,7 +135,7 @@ to_record : (m : Mark) (q : Values) → Fit m q → ((mark_of (rebuilt m q.0 q.1
 to_record m q f =
     let same = rebuilt_values m q.0 q.1 f.0.0 f.1.0 in (
       (sym (rebuilt_mark m q.0 q.1), subst (AllByRecursion Small) same (All-append Small q.0 (map pos q.1) f.0.1 (All-map Small pos q.1 f.1.1))),
-      sym (joined_append q.0 (map pos q.1)) ∙ ap (flat_map field) same,
+      sym (flat_map-append field q.0 (map pos q.1)) ∙ ap (flat_map field) same,
     )
 
 split_all : (zs : List ℤ) (ns : List ℕ) → AllByRecursion Small (zs ++ map pos ns) → AllByRecursion Small zs × AllByRecursion small ns
@@ -173,15 +170,12 @@ module _ (m : Mark) (t : Cursor) where
   values_are v u zs y None h = made_behind u None (both_behind v u zs y None h)
   values_are v u zs y (Some ns) h = made_behind u (Some (zs, ns)) (both_behind v u zs y (Some ns) h)
 
-  pub plain : 0 ≡ signs m → (u : Cursor) (o : Option (List ℕ)) → Counts t u o → Behind m t u (option_map (rebuilt m []) o)
+  plain : 0 ≡ signs m → (u : Cursor) (o : Option (List ℕ)) → Counts t u o → Behind m t u (option_map (rebuilt m []) o)
   plain none u o h = values_are t u [] (subst (λ n. Exactly (flat_map field) (λ zs. (length zs ≡ n) × AllByRecursion Small zs) t t (Some [])) none (nothing (flat_map field) Small t refl)) o h
 
   module _ (one_sign : 1 ≡ signs m) (v : Cursor) where
     sign : (o : Option ℤ) → Exactly field Small t v o → Signs v (option_map (λ z. z ∷ []) o)
     sign o y = subst (λ n. Exactly (flat_map field) (λ zs. (length zs ≡ n) × AllByRecursion Small zs) t v (option_map (λ z. z ∷ []) o)) one_sign (lead t v o y)
-
-    pub no_lead : Exactly field Small t v None → Behind m t v None
-    no_lead y = made_behind v None (first_fails (flat_map field) fields _ (λ _ ns. (length ns ≡ numbers m) × AllByRecursion small ns) (λ ns. ends_before (map pos ns)) t v (sign None y))
 
     pub led : (u : Cursor) (z : ℤ) → Exactly field Small t v (Some z) → (o : Option (List ℕ)) → Counts v u o → Behind m t u (option_map (rebuilt m (z ∷ [])) o)
     led u z y o h = values_are v u (z ∷ []) (sign (Some z) y) o h
@@ -206,10 +200,10 @@ whole s u o x =
 apart : (r : Record) (ys : List ℕ) → NoDigit ys → NoDigit (behind r ++ ys)
 apart r = ends_before (values_of r)
 
-pub no_mark : (s t : Cursor) → Letters s t None → Exactly text_of Fits s t None
-no_mark s t x = whole s t None (first_fails letters_of behind (λ _. Unit {0}) Of apart s t x)
-
 -- m is the mark that was read, and k the same by another name
-pub after_mark : (s t u : Cursor) (k m : Mark) → k ≡ m → Letters s t (Some k) → (o : Option Record) → Behind m t u o → Exactly text_of Fits s u o
+after_mark : (s t u : Cursor) (k m : Mark) → k ≡ m → Letters s t (Some k) → (o : Option Record) → Behind m t u o → Exactly text_of Fits s u o
 after_mark s t u k m e x None y = whole s u None (then letters_of behind (λ _. Unit {0}) Of apart s t u m (subst (λ j. Letters s t (Some j)) e x) None y)
 after_mark s t u k m e x (Some r) y = whole s u (Some (m, r)) (then letters_of behind (λ _. Unit {0}) Of apart s t u m (subst (λ j. Letters s t (Some j)) e x) (Some r) y)
+
+pub numbers_behind : {s t u : Cursor} {k : Mark} {o : Option Record} (m : Mark) → k ≡ m → 0 ≡ signs m → Letters s t (Some k) → MadeOf (numbers m) (rebuilt m []) t u o → Exactly text_of Fits s u o
+numbers_behind {s} {t} {u} {k} {o} m is none x h = after_mark s t u k m is x o (subst (Behind m t u) (sym h.made) (plain m t none u h.numbers h.stand))

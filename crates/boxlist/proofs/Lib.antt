@@ -1,6 +1,5 @@
 pub mod Bodies
 pub mod Fields
-pub mod Letters
 pub mod Lines
 pub mod Numbers
 pub mod Passes

@@ -1,5 +1,5 @@
 -- A record's text has no byte 10, so the line that it begins ends with the record.
-use Rattle.std.proofs.Common.{◌≡◌, ℕ, suc, ◌+◌, ◌*◌, ◌<◌, ◌≤◌, eqb, List, [], ◌∷◌, ◌++◌, length, ℤ, pos, negsuc, Some, None, decimal, Option, sym, refl, ap, ◌∙◌, ⊎_elim, arith, length-append}
+use Rattle.std.proofs.Common.{◌≡◌, ℕ, suc, ◌+◌, ◌<◌, eqb, List, [], ◌∷◌, ◌++◌, length, ℤ, pos, negsuc, Some, None, decimal, Option, sym, refl, ap, ◌∙◌, ⊎_elim, arith}
 use Rattle.std.proofs.lemmas.Fmt.{digits_decimal}
 use Rattle.std.proofs.ByRecursion.{All-append}
 use Rattle.std.proofs.lemmas.List.{append_assoc, append_cancel_left}
@@ -18,7 +18,7 @@ use Rattle.boxlist.specs.Parts.{ahead, Exactly, Passed}
 use Rattle.boxlist.specs.Texts.{field, mark_of, values_of, text_of, Fits, Small}
 use Rattle.boxlist.proofs.Fields.{none_some, some_same}
 use Rattle.boxlist.proofs.Numbers.{own}
-use Rattle.boxlist.proofs.Passes.{passed_both, within}
+use Rattle.boxlist.proofs.Passes.{shorter}
 
 abbrev Above : ℕ → Type 0
 Above b = 10 < b
@@ -62,10 +62,6 @@ rest (b ∷ bs) =
     (λ e. (more.0, ap (λ l. b ∷ l) more.1 ∙ ap (λ l. b ∷ (l ++ more.0)) (sym (cond-false (eqb b 10) [] (line_of bs) e))))
     (cases_Bool (eqb b 10))
 
-pub some_line : (xs : List ℕ) → 0 < length xs → 0 < length (line_of xs)
-some_line [] h = h
-some_line (b ∷ bs) h = omega arith
-
 -- s is where a line begins, and t where reading a record ended
 module _ (s t : Cursor) where
   abbrev Read : Option Record → Type 0
@@ -87,19 +83,15 @@ module _ (s t : Cursor) where
     pub same : (q : Record) → Fits q → Line q → p ≡ q
     same q fits e = some_same (line_read (Some p) x q fits e).2
 
-    pub no_end : ((ys : List ℕ) → ahead t ≡ 10 ∷ ys → ⊥) → (q : Record) → Fits q → Line q → ⊥
-    no_end missing q fits e =
+    pub ends : (q : Record) → Fits q → Line q → (ys : List ℕ) × (ahead t ≡ 10 ∷ ys)
+    ends q fits e =
         let r = line_read (Some p) x q fits e in
-        missing r.0 (append_cancel_left (text_of p) (ahead t) (10 ∷ r.0) (sym x.reads.1.front ∙ r.1 ∙ ap (λ y. text_of y ++ (10 ∷ r.0)) (sym (same q fits e))))
+        (r.0, append_cancel_left (text_of p) (ahead t) (10 ∷ r.0) (sym x.reads.1.front ∙ r.1 ∙ ap (λ y. text_of y ++ (10 ∷ r.0)) (sym (same q fits e))))
 
-    module _ (u : Cursor) (y : Passed (10 ∷ []) t u) where
-      pub line_is : Line p
-      line_is = sym (ap line_of (x.reads.1.front ∙ ap (λ l. text_of p ++ l) y.front) ∙ ends_at (text_of p) (ahead u) (text_above p x.reads.0))
+-- a record and the byte 10 are passed, where the text goes on with xs
+module _ {xs : List ℕ} (s u : Cursor) (e : ahead s ≡ xs) (p : Record) (fits : Fits p) (y : Passed (text_of p ++ 10 ∷ []) s u) where
+  pub line_is : text_of p ++ 10 ∷ [] ≡ line_of xs
+  line_is = sym (ap line_of (sym e ∙ y.front ∙ append_assoc (text_of p) (10 ∷ []) (ahead u)) ∙ ends_at (text_of p) (ahead u) (text_above p fits))
 
-      pub line_inside : (s.pos < u.pos) × (u.pos ≤ length s.text.now)
-      line_inside =
-          let w = within (text_of p ++ 10 ∷ []) s u (passed_both x.reads.1 y) (λ e. omega (arith, x.reads.1.far, y.far)) in
-          (w.0, omega (arith, w.1, w.2))
-
-      pub line_far : u.pos ≡ s.pos + 1 * length (line_of (ahead s))
-      line_far = omega (arith, x.reads.1.far, y.far, length-append (text_of p) (10 ∷ []), ap length line_is)
+  pub line_far : length xs ≡ length (line_of xs) + length (ahead u)
+  line_far = ap length (sym e) ∙ shorter (text_of p ++ 10 ∷ []) s u y ∙ ap (λ l. length l + length (ahead u)) line_is

@@ -1,5 +1,5 @@
 -- A front of digits against a written number: which of the two goes on, and when they are the same.
-use Rattle.std.proofs.Common.{◌≡◌, ℕ, ◌+◌, ◌-◌, ◌*◌, ◌^◌, ◌<◌, ◌≤◌, List, [], ◌∷◌, ◌++◌, map, length, get_or, take, drop, Some, None, decimal, sym, refl, ap, ◌∙◌, subst, ⊎_elim, arith, length-append}
+use Rattle.std.proofs.Common.{◌≡◌, ℕ, ◌+◌, ◌-◌, ◌*◌, ◌^◌, ◌<◌, ◌≤◌, List, [], ◌∷◌, ◌++◌, map, length, get_or, take, Some, None, decimal, sym, refl, ap, ◌∙◌, subst, ⊎_elim, arith, length-append}
 use Rattle.std.proofs.lemmas.Fmt.{decimal_digit, decimal_nonempty, first_decimal, digits_decimal, digits_value-decimal, decimal-digits_value}
 use Rattle.std.proofs.lemmas.Int.Digits.{number_after_append, number_after_ge, digits_value_is, digits_value_push, digits_push}
 use Rattle.std.proofs.lemmas.List.{append-nil, map-append, nil_from_length, take_at}
@@ -12,7 +12,7 @@ use Rattle.std.specs.Int.Digits.{number_from_digits}
 use Rattle.items.specs.Items.{most}
 use Rattle.boxlist.specs.declared.cursor.Cursor.{Cursor}
 use Rattle.boxlist.specs.Parts.{ahead, Exactly, LeadingZero, NoDigit, Passed, small}
-use Rattle.boxlist.proofs.Passes.{passed_none, passed_both}
+use Rattle.boxlist.proofs.Passes.{passed_both, shorter}
 
 pub own : IsNumeralModel (AllDigits 10) (digits_value 10)
 own = numerals_by_value (AllDigits 10) tells_digits
@@ -81,9 +81,6 @@ pub record Sofar (s t : Cursor) (n : ℕ) : Type 0 where
   pub digits : AllDigits 10 ds
   pub is : digits_value 10 ds ≡ n
 
-pub start : (s : Cursor) → Sofar s s 0
-start s = record { ds = []; passed = passed_none s; digits = tt; is = refl }
-
 glyph : (d : ℕ) → d < 10 → digit_value (48 + d) ≡ d
 glyph d h = grind (arith, nat_tests)
 
@@ -103,10 +100,14 @@ at_end_lem {s} {t} {u} {n} h e = subst (λ x. Sofar s x n × NoDigit (ahead x)) 
 
 -- s is where the digits begin, and t where they end
 module _ {s t : Cursor} {n : ℕ} (h : Sofar s t n) where
-  part : take (t.pos - s.pos) (drop s.pos t.text.now) ≡ h.ds
-  part =
-      ap (λ x. take (t.pos - s.pos) (drop s.pos x.now)) h.passed.same ∙ ap (take (t.pos - s.pos)) h.passed.front
-      ∙ take_at h.ds (ahead t) (t.pos - s.pos) (omega (arith, h.passed.far))
+  abbrev len : ℕ
+  len = length (ahead s) - length (ahead t)
+
+  long : len ≡ length h.ds
+  long = omega (arith, shorter h.ds s t h.passed)
+
+  part : take len (ahead s) ≡ h.ds
+  part = ap (take len) h.passed.front ∙ take_at h.ds (ahead t) len (sym long)
 
   pub above : (small n → ⊥) → Exactly decimal small s t None
   above large = record {
@@ -115,21 +116,21 @@ module _ {s t : Cursor} {n : ℕ} (h : Sofar s t n) where
   }
 
   module _ (stops : NoDigit (ahead t)) where
-    pub empty : t.pos ≡ s.pos → Exactly decimal small s t None
-    empty same = record {
+    pub empty : len ≡ 0 → Exactly decimal small s t None
+    empty none = record {
       reads = tt;
-      finds = λ m ys fits ends e. absurd (omega (arith, h.passed.far, is_some h.ds (ahead t) h.digits m ys fits ends (sym h.passed.front ∙ e) stops));
+      finds = λ m ys fits ends e. absurd (omega (arith, none, long, is_some h.ds (ahead t) h.digits m ys fits ends (sym h.passed.front ∙ e) stops));
     }
 
-    pub zero_first : LeadingZero (take (t.pos - s.pos) (drop s.pos t.text.now)) → Exactly decimal small s t None
+    pub zero_first : LeadingZero (take len (ahead s)) → Exactly decimal small s t None
     zero_first z = record {
       reads = tt;
       finds = λ m ys fits ends e. absurd (no_zero_first h.ds (ahead t) h.digits m ys fits ends (sym h.passed.front ∙ e) stops (subst LeadingZero part z));
     }
 
-    pub number_is : small n → (t.pos ≡ s.pos → ⊥) → (LeadingZero (take (t.pos - s.pos) (drop s.pos t.text.now)) → ⊥) → Exactly decimal small s t (Some n)
+    pub number_is : small n → (len ≡ 0 → ⊥) → (LeadingZero (take len (ahead s)) → ⊥) → Exactly decimal small s t (Some n)
     number_is fits-n apart no_zero =
-        let some : 0 < length h.ds = ⊎_elim (λ l. l) (λ l. absurd (apart (omega (arith, h.passed.far)))) (cases_lt 0 (length h.ds)) in
+        let some : 0 < length h.ds = ⊎_elim (λ l. l) (λ l. absurd (apart (omega (arith, long)))) (cases_lt 0 (length h.ds)) in
         let same : decimal n ≡ h.ds = ap decimal (sym h.is) ∙ written h.ds h.digits some (λ z. no_zero (subst LeadingZero (sym part) z)) (omega (arith, h.is)) in
         record {
           reads = (fits-n, subst (λ l. Passed l s t) (sym same) h.passed);

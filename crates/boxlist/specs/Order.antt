@@ -73,7 +73,7 @@ stage_after Ended r = None
 abbrev pub head_within : Record → Bool
 head_within (Settings size depth top bound policy) = settings_within (record { size = size; depth = depth; top = top }) && nat_le 1 bound && nat_le bound 100 && nat_le policy 2
 head_within (Class class limit skip floating depth) =
-    nat_le class 7 && class_within (record { declared = true; floating = floating; limit = limit; skip = skip; depth = depth })
+    nat_le class 7 && class_within (record { floating = floating; limit = limit; skip = skip; depth = depth })
 head_within (Box height depth) = true
 head_within (Glue width stretch order shrink) = true
 head_within (Kern width) = true

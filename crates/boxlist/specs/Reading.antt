@@ -1,58 +1,62 @@
 -- What is told of each line of a box list.
 use Rattle.std.specs.Prelude.{◌≡◌, ℕ, ◌+◌, ◌*◌, ◌<◌, ◌≤◌, cond, ◌⊎◌, List, [], ◌∷◌, map, length, take, drop, Some, None, Ok, Err, Option, Result}
 use Rattle.boxlist.specs.declared.faults.Fault.{Fault}
-use Rattle.boxlist.specs.declared.faults.TextCause.TheVariants.{Limits, NoRecord, OutOfPlace}
+use Rattle.boxlist.specs.declared.faults.TextCause.{TextCause}
+use Rattle.boxlist.specs.declared.faults.TextCause.TheVariants as cause
 use Rattle.boxlist.specs.Faults.{text_fault}
 use Rattle.boxlist.specs.declared.list.Placed.{Placed}
 use Rattle.boxlist.specs.declared.order.Stage.{Stage}
 use Rattle.boxlist.specs.declared.order.Stage.TheVariants.{Start, Classes, Entries, Content, Ended}
-use Rattle.boxlist.specs.declared.reader.Reading.{Reading}
-use Rattle.boxlist.specs.declared.reader.Reading.TheVariants as reading
+use Rattle.boxlist.specs.declared.reader.NoRecord.{NoRecord}
 use Rattle.boxlist.specs.declared.records.Record.{Record}
 use Rattle.items.specs.declared.Item.{Item}
 use Rattle.boxlist.specs.declared.list.BoxList.{BoxList}
 use Rattle.boxlist.specs.Lines.{Answers, line_at, lines_passed}
 use Rattle.boxlist.specs.Order.{to_come, stage_after, head_within, item_of}
 
-abbrev pub after_end : ℕ → Stage → Result (Option Placed) Fault
-after_end line Start = Err (text_fault line OutOfPlace)
-after_end line (Classes above) = Err (text_fault line OutOfPlace)
-after_end line Entries = Err (text_fault line OutOfPlace)
-after_end line (Content left) = Err (text_fault line OutOfPlace)
-after_end line Ended = Ok None
+abbrev pub after_end : Stage → Result (Option Placed) TextCause
+after_end Start = Err cause.OutOfPlace
+after_end (Classes above) = Err cause.OutOfPlace
+after_end Entries = Err cause.OutOfPlace
+after_end (Content left) = Err cause.OutOfPlace
+after_end Ended = Ok None
 
-abbrev pub in_place : ℕ → Record → Option Stage → Result (Option Placed) Fault
-in_place line r None = Err (text_fault line OutOfPlace)
-in_place line r (Some s) = cond (head_within r) (Ok (Some (record { read = r; stage = s }))) (Err (text_fault line Limits))
+abbrev pub in_place : Record → Option Stage → Result (Option Placed) TextCause
+in_place r None = Err cause.OutOfPlace
+in_place r (Some s) = cond (head_within r) (Ok (Some (record { read = r; stage = s }))) (Err cause.Limits)
 
 -- no record is tested first, then its place, then the limits of settings and classes; the text may end only after the
 -- end's record
-abbrev pub outcome_of : Stage → ℕ → Reading → Result (Option Placed) Fault
-outcome_of s line reading.NoRecord = Err (text_fault line NoRecord)
-outcome_of s line reading.Ended = after_end line s
-outcome_of s line (reading.Record r) = in_place line r (stage_after s r)
+abbrev pub outcome_of : Stage → Result (Option Record) NoRecord → Result (Option Placed) TextCause
+outcome_of s (Err none) = Err cause.NoRecord
+outcome_of s (Ok None) = after_end s
+outcome_of s (Ok (Some r)) = in_place r (stage_after s r)
 
--- what is answered, and the stage after it, from what is told
-abbrev pub answer_of : Result (Option Placed) Fault → Result (Option Record) Fault
-answer_of (Ok None) = Ok None
-answer_of (Ok (Some p)) = Ok (Some p.read)
-answer_of (Err f) = Err f
+-- what is answered at a line, and the stage after it, from what is told
+abbrev pub answer_of : ℕ → Result (Option Placed) TextCause → Result (Option Record) Fault
+answer_of line (Ok None) = Ok None
+answer_of line (Ok (Some p)) = Ok (Some p.read)
+answer_of line (Err cause) = Err (text_fault line cause)
 
-abbrev pub stage_of : Stage → Result (Option Placed) Fault → Stage
+abbrev pub stage_of : Stage → Result (Option Placed) TextCause → Stage
 stage_of s (Ok None) = s
 stage_of s (Ok (Some p)) = p.stage
-stage_of s (Err f) = s
+stage_of s (Err cause) = s
 
 -- one line is read: what stands there, what is told of it, and where the reading is then
 pub record ReadOne (before after : BoxList) (answer : Result (Option Record) Fault) : Type 0 where
-  pub read : Reading
+  pub read : Result (Option Record) NoRecord
   pub stands : Answers (line_at before.reader.pos before.reader.text.now) read
-  pub told : answer ≡ answer_of (outcome_of before.stage before.reader.line read)
-  pub stage : after.stage ≡ stage_of before.stage (outcome_of before.stage before.reader.line read)
+  pub told : answer ≡ answer_of before.reader.line (outcome_of before.stage read)
+  pub stage : after.stage ≡ stage_of before.stage (outcome_of before.stage read)
   pub pos : after.reader.pos ≡ before.reader.pos + lines_passed read * length (line_at before.reader.pos before.reader.text.now)
   pub line : after.reader.line ≡ before.reader.line + lines_passed read
   pub text : after.reader.text ≡ before.reader.text
   pub onward : 0 < lines_passed read → (before.reader.pos < after.reader.pos) × (after.reader.pos ≤ length before.reader.text.now)
+
+-- the reading went on, within the text
+abbrev pub Onward : BoxList → BoxList → Type 0
+Onward before after = (before.reader.pos < after.reader.pos) × (after.reader.pos ≤ length before.reader.text.now) × (after.reader.text ≡ before.reader.text)
 
 -- items of a note's content are to come
 abbrev pub InContent : Stage → Type 0

@@ -1,13 +1,14 @@
 // A box list as it is read: each record in its place, and a note with its content.
-ghost use Rattle.std.specs.Prelude.{◌≡◌, ◌<◌, ◌≤◌, length, Err};
+ghost use Rattle.std.specs.Prelude.{◌≡◌, ◌<◌, ◌≤◌, length, Ok, Err, Some};
 ghost use Rattle.boxlist.specs.declared.order.Stage.TheVariants.{Start};
+ghost use Rattle.boxlist.specs.declared.records.Record.{Record};
 ghost use Rattle.boxlist.specs.Faults.{text_fault};
 ghost use Rattle.boxlist.specs.Order.{owing};
-ghost use Rattle.boxlist.specs.Reading.{outcome_of, ReadOne, InContent, ReadItem, ReadContent, ReadEntry};
+ghost use Rattle.boxlist.specs.Reading.{after_end, outcome_of, ReadOne, Onward, InContent, ReadItem, ReadContent, ReadEntry};
 
-use crate::faults::{Fault, Layer, TextCause};
+use crate::faults::{Fault, TextCause};
 use crate::order::Stage;
-use crate::reader::{Reader, Reading};
+use crate::reader::{NoRecord, Reader};
 use crate::records::Record;
 use items::Item;
 
@@ -19,49 +20,36 @@ pub struct BoxList<'a> {
 }
 
 // A record in its place, with the stage after it.
-#[derive(Clone, Copy)]
+#[derive(Clone, Copy, PartialEq, Eq, Debug)]
 pub struct Placed {
     pub read: Record,
     pub stage: Stage,
 }
 
-fn text_fault(line: usize, cause: TextCause) -> Fault
-    ensures { result ≡ text_fault line cause }
-{
-    Fault {
-        line,
-        layer: Layer::Text(cause),
-    }
-}
-
 // What is told of a line: no record is tested first, then its place, then the limits of settings and classes.
-fn outcome(stage: Stage, line: usize, reading: Reading) -> Result<Option<Placed>, Fault>
-    ensures { result ≡ outcome_of stage line reading }
+fn outcome(
+    stage: Stage,
+    reading: Result<Option<Record>, NoRecord>,
+) -> Result<Option<Placed>, TextCause>
+    ensures { result ≡ outcome_of stage reading }
 {
-    let read = match reading {
-        Reading::NoRecord => return Err(text_fault(line, TextCause::NoRecord)),
-        Reading::Ended => return ended(stage, line),
-        Reading::Record(read) => read,
+    let Some(read) = reading? else {
+        return ended(stage);
     };
-    match stage.after(read) {
-        None => Err(text_fault(line, TextCause::OutOfPlace)),
-        Some(stage) => {
-            if read.within_limits() {
-                Ok(Some(Placed { read, stage }))
-            } else {
-                Err(text_fault(line, TextCause::Limits))
-            }
-        }
+    let stage = stage.after(read).ok_or(TextCause::OutOfPlace)?;
+    if !read.within_limits() {
+        return Err(TextCause::Limits);
     }
+    Ok(Some(Placed { read, stage }))
 }
 
 // The text may end only after the end's record.
-fn ended(stage: Stage, line: usize) -> Result<Option<Placed>, Fault>
-    ensures { result ≡ outcome_of stage line Reading.Ended }
+fn ended(stage: Stage) -> Result<Option<Placed>, TextCause>
+    ensures { result ≡ after_end stage }
 {
     match stage {
         Stage::Ended => Ok(None),
-        _ => Err(text_fault(line, TextCause::OutOfPlace)),
+        _ => Err(TextCause::OutOfPlace),
     }
 }
 
@@ -78,17 +66,17 @@ impl<'a> BoxList<'a> {
 
     // The next record, in its place, or none after the end.
     pub fn record(&mut self) -> Result<Option<Record>, Fault>
-        ensures { ReadOne self.old self.new result }
+        ensures read { ReadOne self.old self.new result }
+        ensures onward { (r : Record) → result ≡ Ok (Some r) → Onward self.old self.new }
     {
         let line = self.reader.line();
         let reading = self.reader.next();
-        match outcome(self.stage, line, reading)? {
-            Some(placed) => {
-                self.stage = placed.stage;
-                Ok(Some(placed.read))
-            }
-            None => Ok(None),
-        }
+        let told = outcome(self.stage, reading).map_err(|cause| Fault::of_text(line, cause))?;
+        let Some(placed) = told else {
+            return Ok(None);
+        };
+        self.stage = placed.stage;
+        Ok(Some(placed.read))
     }
 
     // The next item of a note's content.
@@ -96,13 +84,8 @@ impl<'a> BoxList<'a> {
         requires { InContent self.old.stage }
         ensures { ReadItem self.old self.new result }
     {
-        match self.record()? {
-            Some(read) => match read.item() {
-                Some(item) => Ok(item),
-                None => unreachable(),
-            },
-            None => unreachable(),
-        }
+        let read = self.record()?.unwrap();
+        Ok(read.item().unwrap())
     }
 
     // A note's content, all of it, to the front of a table.
@@ -111,9 +94,9 @@ impl<'a> BoxList<'a> {
         requires room { length self.old.reader.text.now ≤ length table.old }
         ensures { ReadContent self.old self.new table.old table.new count result }
     {
-        for i in 0..count {
-            let item = self.content_item()?;
-            table[i as usize] = item;
+        // By index: a count may be above the table's length, and then the text ends first.
+        for i in 0..count as usize {
+            table[i] = self.content_item()?;
         }
         Ok(())
     }
@@ -121,11 +104,11 @@ impl<'a> BoxList<'a> {
     // The next record with all its content, where there is room for it.
     fn whole_entry(&mut self, table: &mut [Item]) -> Result<Option<Record>, Fault>
         requires room { length self.old.reader.text.now ≤ length table.old }
-        ensures { ReadEntry self.old self.new table.old table.new result }
+        ensures read { ReadEntry self.old self.new table.old table.new result }
+        ensures onward { (r : Record) → result ≡ Ok (Some r) → Onward self.old self.new }
     {
         let first = self.record()?;
-        let stage = self.stage;
-        self.gather(stage.to_come(), table)?;
+        self.gather(self.stage.to_come(), table)?;
         Ok(first)
     }
 
@@ -133,10 +116,11 @@ impl<'a> BoxList<'a> {
     // table, which is refused by 1 if it is shorter than the text, so that any content fits.
     pub fn entry(&mut self, table: &mut [Item]) -> Result<Option<Record>, Fault>
         ensures read { length self.old.reader.text.now ≤ length table.old → ReadEntry self.old self.new table.old table.new result }
+        ensures onward { (r : Record) → result ≡ Ok (Some r) → Onward self.old self.new }
         ensures short { length table.old < length self.old.reader.text.now → (result ≡ Err (text_fault self.old.reader.line TextCause.Limits)) × (self.new ≡ self.old) × (table.new ≡ table.old) }
     {
         if table.len() < self.reader.text_len() {
-            return Err(text_fault(self.reader.line(), TextCause::Limits));
+            return Err(Fault::of_text(self.reader.line(), TextCause::Limits));
         }
         self.whole_entry(table)
     }

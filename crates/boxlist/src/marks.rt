@@ -16,6 +16,7 @@ pub(crate) enum Mark {
 }
 
 impl Mark {
+    // No TryFrom: it would need an error that nothing reads.
     pub(crate) fn of(letters: &[u8]) -> Option<Mark>
         ensures reads { IfSome result (λ m. letters.now ≡ letters_of m) }
         ensures finds { (m : Mark) → letters.now ≡ letters_of m → result ≡ Some m }

@@ -7,7 +7,7 @@ use items::{Class, Item, Settings};
 
 // Where the reading of a box list is. `above` is the lowest class that may come next, and `left` how many items of a
 // note's content are still to come.
-#[derive(Clone, Copy)]
+#[derive(Clone, Copy, PartialEq, Eq, Debug)]
 pub enum Stage {
     Start,
     Classes { above: u64 },
@@ -53,11 +53,7 @@ impl Stage {
         match next {
             Record::Class { class, .. } => {
                 let class = u64::from(class);
-                if above <= class {
-                    Some(Stage::Classes { above: class + 1 })
-                } else {
-                    None
-                }
+                (above <= class).then_some(Stage::Classes { above: class + 1 })
             }
             _ => Stage::after_entries(next),
         }
@@ -110,7 +106,7 @@ impl Record {
                 policy,
             } => {
                 let settings = Settings { size, depth, top };
-                settings.within_limits() && 1 <= bound && bound <= 100 && policy <= 2
+                settings.within_limits() && (1..=100).contains(&bound) && policy <= 2
             }
             Record::Class {
                 class,
@@ -120,7 +116,6 @@ impl Record {
                 depth,
             } => {
                 let rules = Class {
-                    declared: true,
                     floating,
                     limit,
                     skip,
@@ -133,6 +128,7 @@ impl Record {
     }
 
     // The item that an entry stands for. An order too large for an item's is one that is outside its limits as well.
+    // No TryFrom: a record that stands for no item is no error.
     pub fn item(self) -> Option<Item>
         ensures { result ≡ item_of self }
     {
@@ -144,7 +140,7 @@ impl Record {
                 order,
                 shrink,
             } => {
-                let order = order.min(255) as u8;
+                let order = u8::try_from(order).unwrap_or(u8::MAX);
                 Some(Item::Glue {
                     width,
                     stretch,

@@ -2,43 +2,19 @@
 use boxlist::faults::{Fault, Layer};
 use boxlist::list::BoxList;
 use std::process::Abort;
-use std::test::Fail;
 
-fn first_fault(text: &[u8]) -> Option<Fault> {
+pub(crate) fn read(text: &[u8]) -> Result<(), Fault> {
     let mut list = BoxList::new(text);
-    for _ in 0..=text.len() {
-        match list.record() {
-            Ok(Some(_)) => {}
-            Ok(None) => return None,
-            Err(fault) => return Some(fault),
-        }
-    }
-    None
+    while let Some(_) = list.record()? {}
+    Ok(())
 }
 
-pub(crate) fn check_fault(
-    rt: &impl Abort,
-    text: &[u8],
-    line: usize,
-    cause: u32,
-) -> Result<(), Fail> {
-    match first_fault(text) {
-        Some(fault) => {
-            assert_eq!(rt; fault.faulty_line(), line, "the line");
-            assert_eq!(rt; fault.cause(), cause, "the cause");
-            assert!(rt; matches!(fault.layer, Layer::Text(_)), "the layer");
-            Ok(())
-        }
-        None => Err(Fail::new("no fault was found")),
-    }
+pub(crate) fn check_fault(rt: &impl Abort, text: &[u8], line: usize, cause: u32) {
+    let fault = read(text).expect_err(rt, "no fault was found");
+    assert_eq!(rt; (fault.faulty_line(), fault.cause()), (line, cause));
+    assert!(rt; matches!(fault.layer, Layer::Text(_)), "the layer");
 }
 
-pub(crate) fn check_whole(rt: &impl Abort, text: &[u8]) -> Result<(), Fail> {
-    match first_fault(text) {
-        Some(fault) => {
-            assert_eq!(rt; fault.line, 0, "the line of a fault that should not be");
-            Err(Fail::new("a fault at line 0"))
-        }
-        None => Ok(()),
-    }
+pub(crate) fn check_whole(rt: &impl Abort, text: &[u8]) {
+    assert_eq!(rt; read(text), Ok(()));
 }

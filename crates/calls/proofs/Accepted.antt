@@ -1,6 +1,6 @@
 -- What a feed that is not refused says of the item, or of the note and its content.
 use Rattle.std.proofs.Common.{◌≡◌, ℕ, zero, suc, ◌+◌, ◌<◌, ◌≤◌, Bool, true, false, not, eqb, ltb, List, [], ◌∷◌, length, get_or, Some, None, Option, sym, refl, ◌∙◌, arith}
-use Rattle.std.specs.Option.{option_or}
+use Rattle.std.specs.Option.{is_some, option_or}
 use Rattle.std.specs.List.{AllByRecursion}
 use Rattle.std.proofs.lemmas.Bool.{ltb-false, not-false, false≢true}
 use Rattle.items.specs.declared.Item.{Item}
@@ -10,7 +10,6 @@ use Rattle.items.specs.declared.refusals.Refusal.{Refusal}
 use Rattle.items.specs.declared.refusals.Cause.{Cause}
 use Rattle.items.specs.declared.refusals.Cause.TheVariants.{Closed, NoContent, Undeclared, Value, Full}
 use Rattle.items.specs.Items.{is_note, within_limits}
-use Rattle.items.specs.Limits.{undeclared}
 use Rattle.items.specs.Refusals.{content_refusal}
 use Rattle.items.proofs.Contents.{no_notes, all_within}
 use Rattle.calls.specs.Book.{Book}
@@ -39,12 +38,12 @@ not_refused : (t : Bool) (cause : Cause) → refused_if t cause ≡ None → t �
 not_refused true cause e = cc
 not_refused false cause e = refl
 
-declared_within : (cs : List Class) (c : ℕ) → (get_or cs c undeclared).declared ≡ true → c < length cs
-declared_within [] c e = absurd (false≢true e)
-declared_within (k ∷ cs) zero e = omega arith
-declared_within (k ∷ cs) (suc c) e = let i = declared_within cs c e in omega arith
+declared_inside : (cs : List (Option Class)) (c : ℕ) → is_some (get_or cs c None) ≡ true → c < length cs
+declared_inside [] c e = absurd (false≢true e)
+declared_inside (k ∷ cs) zero e = omega arith
+declared_inside (k ∷ cs) (suc c) e = let i = declared_inside cs c e in omega arith
 
-module _ (classes : List Class) (eight : length classes ≡ 8) where
+module _ (classes : List (Option Class)) (eight : length classes ≡ 8) where
   word_feedable : (t : Item) → is_note t ≡ false → ((c k : ℕ) → t ≡ Note c k → ⊥) → refused_if (not (within_limits t)) Value ≡ None → Feedable t []
   word_feedable t w n e = record {
     value = not-false (within_limits t) (not_refused (not (within_limits t)) Value e);
@@ -58,11 +57,11 @@ module _ (classes : List Class) (eight : length classes ≡ 8) where
 
   note_feedable : (c : ℕ) (content : List Item) → note_refusal classes c content ≡ None → Feedable (Note c (length content)) content
   note_feedable c content e =
-      let declared = refused_if (not (get_or classes c undeclared).declared) Undeclared in
+      let declared = refused_if (not (is_some (get_or classes c None))) Undeclared in
       let some = refused_if (eqb (length content) 0) NoContent in
       let rest = none_then some (option_or declared (content_refusal content)) e in
-      let is_declared = not_refused (not (get_or classes c undeclared).declared) Undeclared (none_first declared (content_refusal content) rest) in
-      let within = declared_within classes c (not-false (get_or classes c undeclared).declared is_declared) in
+      let is_declared = not_refused (not (is_some (get_or classes c None))) Undeclared (none_first declared (content_refusal content) rest) in
+      let within = declared_inside classes c (not-false (is_some (get_or classes c None)) is_declared) in
       let filled = not_refused (eqb (length content) 0) NoContent (none_first some (option_or declared (content_refusal content)) e) in
       let clean = none_then declared (content_refusal content) rest in
       record {
@@ -100,7 +99,7 @@ fed_open capacity b x content e =
     not_refused b.closed Closed (none_first (refused_if b.closed Closed) (option_or (item_refusal b.classes x content) full) e)
 
 -- and that there is room for all of it
-pub room_left : (capacity : ℕ) (closed : Bool) (classes : List Class) (used : ℕ) (x : Item) (content : List Item) →
+pub room_left : (capacity : ℕ) (closed : Bool) (classes : List (Option Class)) (used : ℕ) (x : Item) (content : List Item) →
     refusal_of capacity closed classes used x content ≡ None → used + 1 + length (content_for x content) ≤ capacity
 room_left capacity closed classes used x content e =
     let wanted = used + 1 + length (content_for x content) in

@@ -1,23 +1,20 @@
 -- Where a page may break there is a best break, and something stands before it.
-use Rattle.std.proofs.Common.{◌≡◌, ℕ, ◌≤◌, Bool, true, false, cond, not, ◌&&◌, ◌||◌, List, [], ◌∷◌, map, length, ℤ, pos, ◌≤ℤ◌, ◌<ℤ◌, Some, None, Option, refl, ap, ◌∙◌, arith}
+use Rattle.std.proofs.Common.{◌≡◌, ℕ, ◌≤◌, Bool, true, false, cond, List, [], ◌∷◌, map, length, ℤ, pos, ◌≤ℤ◌, Some, None, Option, sym, refl, ap, ◌∙◌, arith}
 use lib.Signed.{le_z}
 use borrow.Author.Differences.{ints}
 use Rattle.std.specs.List.{AllByRecursion}
 use Rattle.std.proofs.lemmas.Bool.{and_right}
 use Rattle.items.specs.declared.Item.{Item}
-use Rattle.items.specs.declared.Item.TheVariants.{Glue}
-use Rattle.items.specs.Items.{most, is_box, is_glue, is_note}
+use Rattle.items.specs.Items.{most, is_box}
 use Rattle.items.specs.Table.{item_at, items_at}
-use Rattle.cost.specs.Cost.{forced, forbidden}
 use Rattle.cost.specs.Sums.{fit_of}
 use Rattle.cost.specs.Least.{least}
 use Rattle.cost.proofs.Costs.{cost_most}
-use Rattle.notes.specs.Break.{last_is, first_is, free, penalty_before}
-use Rattle.notes.proofs.Places.{before_allowed}
 use Rattle.page.specs.declared.PageSoFar.{PageSoFar}
 use Rattle.page.specs.declared.breaks.PageBreak.{PageBreak}
 use Rattle.page.specs.PageSoFar.{so_far}
-use Rattle.page.specs.Breaks.{empty, penalty_at, break_here, best_with}
+use Rattle.page.specs.Breaks.{penalty_at, last_note, break_here, best_with}
+use Rattle.page.proofs.Candidates.{penalty_allowed}
 use Rattle.calls.specs.Book.{Book}
 use Rattle.calls.specs.OnPage.{ground_of, on_page, penalty_here, best_here}
 use Rattle.calls.specs.Firing.{note_class}
@@ -26,21 +23,6 @@ use Rattle.calls.proofs.Table.{from_one}
 use Rattle.calls.proofs.Invariant.{page_inside, Inv}
 use Rattle.calls.proofs.Pages.{page_last, FirstNote, BreakFor, BestFor}
 use Rattle.calls.proofs.NoteRows.{note_class_lem}
-
--- the penalty of a page's place does not forbid a break
-penalty_allowed : (closed : Bool) (m : PageSoFar) (page rest : List Item) (p : ℤ) → penalty_at closed m page rest ≡ Some p → p <ℤ forbidden
-penalty_allowed closed m page [] p e = go (closed && not (empty page)) e
-  where
-    go : (t : Bool) → cond t (Some forced) None ≡ Some p → p <ℤ forbidden
-    go true e = let f : p ≡ forced = cc in omega (arith, ints)
-    go false e = let z : ◌≡◌ {A = ℕ} 0 1 = cc in absurd (omega arith)
-penalty_allowed closed m page (x ∷ rest) p e = go m.boxes e
-  where
-    go : (t : Bool) →
-        cond t (penalty_before (last_is (λ y. is_box y || is_note y) page) x (first_is is_glue rest)) (free (is_box x && not (empty page))) ≡ Some p →
-        p <ℤ forbidden
-    go true e = before_allowed (last_is (λ y. is_box y || is_note y) page) x (first_is is_glue rest) p e
-    go false e = before_allowed (is_box x && not (empty page)) (Glue (pos 0) 0 0 0) false p e
 
 -- no break stands before a page
 penalty_none : (closed : Bool) (m : PageSoFar) (rest : List Item) → m.boxes ≡ false → penalty_at closed m [] rest ≡ None
@@ -64,11 +46,11 @@ module _ (b : Book) (F : List Item) (held : List ℕ) (i : Inv F (is_open b) hel
 
   first_of : (page : List ℕ) → AllByRecursion (λ x. 1 ≤ x) page → (place : ℕ) (cost goal : ℤ) →
       FirstNote b.rows page
-      (record { place = place; cost = cost; goal = goal; last = map (λ k. k.last) (so_far (ground_of b) b.rows page).classes })
+      (record { place = place; cost = cost; goal = goal; last = map last_note (so_far (ground_of b) b.rows page).classes })
   first_of [] a place cost goal = tt
   first_of (x ∷ xs) a place cost goal = λ n.
       let k = note_class_lem (item_at b.rows x) n in
-      page_last (ground_of b) b.rows x xs a n (i.formed.classes x (note_class (item_at b.rows x)) k.0 a.0 k.1)
+      page_last (ground_of b) b.rows x xs n (i.formed.classes x (note_class (item_at b.rows x)) k.0 a.0 k.1)
 
   here_break : (p : ℤ) → penalty_here b ≡ Some p → BreakFor b.rows b.page (break_here (on_page b) (length b.page) p)
   here_break p e =
@@ -98,7 +80,7 @@ module _ (b : Book) (F : List Item) (held : List ℕ) (i : Inv F (is_open b) hel
   pub best_some : (p : ℤ) → penalty_here b ≡ Some p → (at : PageBreak) × (best_here b ≡ Some at) × BreakFor b.rows b.page at
   best_some p e =
       let m = on_page b in
-      let allowed = penalty_allowed b.closed m (items_at b.rows b.page) (items_at b.rows b.contributions) p e in
+      let allowed = penalty_allowed b.closed m (items_at b.rows b.page) (items_at b.rows b.contributions) p (sym e) in
       let r = least_break b.best (break_here m (length b.page) p) best (here_break p e) (cost_most (fit_of m.goal m.sums) p m.notes allowed) in
       (r.0, ap (best_with m (length b.page) b.best) e ∙ r.1, r.2)
 

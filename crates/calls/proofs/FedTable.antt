@@ -1,5 +1,5 @@
 -- The item table after a feed: it is well formed, and its text kept is what it was and the new.
-use Rattle.std.proofs.Common.{◌≡◌, ℕ, zero, suc, ◌+◌, ◌-◌, ◌<◌, ◌≤◌, Bool, true, false, cond, not, ◌&&◌, eqb, ◌⊎◌, List, [], ◌∷◌, ◌++◌, map, length, get_or, filter, sym, refl, ap, ◌∙◌, ap₂, inl, inr, arith}
+use Rattle.std.proofs.Common.{◌≡◌, ℕ, zero, suc, ◌+◌, ◌-◌, ◌<◌, ◌≤◌, Bool, true, false, cond, not, ◌&&◌, eqb, ◌⊎◌, List, [], ◌∷◌, ◌++◌, map, length, get_or, Some, None, filter, sym, refl, ap, ◌∙◌, ap₂, inl, inr, arith}
 use Rattle.std.specs.List.{AllByRecursion}
 use Rattle.std.proofs.lemmas.List.{length-append, length-map, get_or_append_left, get_or_at, get_or-append-add, get_or_past, get_or-map}
 use Rattle.std.proofs.lemmas.List.Elements.{filter-append}
@@ -11,7 +11,7 @@ use Rattle.items.specs.declared.Row.{Row}
 use Rattle.items.specs.declared.Place.TheVariants.{Owed}
 use Rattle.items.specs.Lists.{span}
 use Rattle.items.specs.Items.{is_note, blank, within_limits, fed_row}
-use Rattle.items.specs.Table.{row_at, item_at, note_at, WellFormed, Content}
+use Rattle.items.specs.Table.{row_at, item_at, owner, note_at, WellFormed, Content}
 use Rattle.calls.specs.Firing.{note_class}
 use Rattle.calls.specs.Findings.{texts, is_dropped, kept_in}
 use Rattle.calls.proofs.ListLaws.{kept_by_all, kept_by_none, all_both, kept_by_same}
@@ -21,7 +21,7 @@ use Rattle.calls.proofs.Accepted.{Feedable}
 
 -- the table after a feed of an item t, or of a note t with content ts
 abbrev pub fed_table : List Row → Item → List Item → List Row
-fed_table R t ts = R ++ fed_row t 0 ∷ map (λ u. fed_row u (length R + 1)) ts
+fed_table R t ts = R ++ fed_row t None ∷ map (λ u. fed_row u (Some (length R + 1))) ts
 
 module _ (R : List Row) (t : Item) (ts : List Item) (ok : Feedable t ts) where
   abbrev number : ℕ
@@ -31,22 +31,22 @@ module _ (R : List Row) (t : Item) (ts : List Item) (ok : Feedable t ts) where
   Q = fed_table R t ts
 
   pub fed_size : length Q ≡ length R + 1 + length ts
-  fed_size = length-append R (fed_row t 0 ∷ map (λ u. fed_row u number) ts) ∙ (let e = length-map ts (λ u. fed_row u number) in omega arith)
+  fed_size = length-append R (fed_row t None ∷ map (λ u. fed_row u (Some number)) ts) ∙ (let e = length-map ts (λ u. fed_row u (Some number)) in omega arith)
 
   pub fed_old : (y : ℕ) → Inside R y → row_at Q y ≡ row_at R y
-  fed_old y h = get_or_append_left R (fed_row t 0 ∷ map (λ u. fed_row u number) ts) blank (y - 1) (omega arith)
+  fed_old y h = get_or_append_left R (fed_row t None ∷ map (λ u. fed_row u (Some number)) ts) blank (y - 1) (omega arith)
 
-  pub fed_here : row_at Q number ≡ fed_row t 0
-  fed_here = get_or_at R (fed_row t 0) (map (λ u. fed_row u number) ts) blank (number - 1) (omega arith)
+  pub fed_here : row_at Q number ≡ fed_row t None
+  fed_here = get_or_at R (fed_row t None) (map (λ u. fed_row u (Some number)) ts) blank (number - 1) (omega arith)
 
   -- what holds of the content holds of the item of a row after the note
-  fed_later : (P : Item → Type 0) → AllByRecursion P ts → (y : ℕ) → number < y → y ≤ number + length ts → (u : Item) × (row_at Q y ≡ fed_row u number) × P u
+  fed_later : (P : Item → Type 0) → AllByRecursion P ts → (y : ℕ) → number < y → y ≤ number + length ts → (u : Item) × (row_at Q y ≡ fed_row u (Some number)) × P u
   fed_later P w y h k =
       let j = y - (number + 1) in
       let d : Item = Box 0 0 in (
         get_or ts j d,
-        ap (λ z. get_or Q z blank) (omega arith) ∙ get_or-append-add R (fed_row t 0 ∷ map (λ u. fed_row u number) ts) (suc j) blank ∙
-            get_or-map (λ u. fed_row u number) ts j d blank (omega arith),
+        ap (λ z. get_or Q z blank) (omega arith) ∙ get_or-append-add R (fed_row t None ∷ map (λ u. fed_row u (Some number)) ts) (suc j) blank ∙
+            get_or-map (λ u. fed_row u (Some number)) ts j d blank (omega arith),
         All-get_or P ts j d (omega arith) w,
       )
 
@@ -68,7 +68,7 @@ module _ (R : List Row) (t : Item) (ts : List Item) (ok : Feedable t ts) where
       go (inr (inr e)) = end e (cases_lt (number + length ts) y)
 
   later_note : (y : ℕ) → number < y → y ≤ number + length ts → note_at Q y ≡ number
-  later_note y h k = let f = fed_later (λ u. is_note u ≡ false) ok.words y h k in ap (λ r. r.note) f.1
+  later_note y h k = let f = fed_later (λ u. is_note u ≡ false) ok.words y h k in ap owner f.1
 
   later_word : (y : ℕ) → number < y → y ≤ number + length ts → is_note (item_at Q y) ≡ false
   later_word y h k = let f = fed_later (λ u. is_note u ≡ false) ok.words y h k in ap (λ r. is_note r.item) f.1 ∙ f.2
@@ -95,7 +95,7 @@ module _ (R : List Row) (t : Item) (ts : List Item) (ok : Feedable t ts) where
     fed_content x c k h e = spot x h (Content (λ y. item_at Q y) (λ y. note_at Q y) (length Q) x k)
         (λ o. let old = w.content x c k h (sym (ap (λ r. r.item) (fed_old x o)) ∙ e) in record {
           within = let a = old.within in let z = fed_size in omega arith;
-          owner = λ j lo hi. ap (λ r. r.note) (fed_old j (omega arith, let a = old.within in omega arith)) ∙ old.owner j lo hi;
+          owner = λ j lo hi. ap owner (fed_old j (omega arith, let a = old.within in omega arith)) ∙ old.owner j lo hi;
           text = λ j lo hi. ap (λ r. is_note r.item) (fed_old j (omega arith, let a = old.within in omega arith)) ∙ old.text j lo hi;
         })
         (λ f. let here : t ≡ Note c k = sym (ap (λ r. r.item) fed_here) ∙ ap (λ z. item_at Q z) (sym f) ∙ e in
@@ -116,10 +116,10 @@ module _ (R : List Row) (t : Item) (ts : List Item) (ok : Feedable t ts) where
 
     fed_owners : (x : ℕ) → 1 ≤ x → note_at Q x ≤ length Q
     fed_owners x h = let z = fed_size in spot x h (note_at Q x ≤ length Q)
-        (λ o. let a = ap (λ r. r.note) (fed_old x o) in let m = w.owners x h in omega arith)
-        (λ f. let a = ap (note_at Q) f ∙ ap (λ r. r.note) fed_here in omega arith)
+        (λ o. let a = ap owner (fed_old x o) in let m = w.owners x h in omega arith)
+        (λ f. let a = ap (note_at Q) f ∙ ap owner fed_here in omega arith)
         (λ p q. let a = later_note x p q in omega arith)
-        (λ p. let a = ap (λ r. r.note) (fed_past x p) in omega arith)
+        (λ p. let a = ap owner (fed_past x p) in omega arith)
 
     fed_values : (x : ℕ) → 1 ≤ x → within_limits (item_at Q x) ≡ true
     fed_values x h = spot x h (within_limits (item_at Q x) ≡ true)
@@ -134,7 +134,7 @@ module _ (R : List Row) (t : Item) (ts : List Item) (ok : Feedable t ts) where
     -- old text is of the kind that it was
     pub old_text : (c y : ℕ) → Inside R y → is_text Q c y ≡ is_text R c y
     old_text c y h =
-        ap (λ m. not (eqb m 0) && eqb (note_class (item_at Q m)) c) (ap (λ r. r.note) (fed_old y h)) ∙ go (note_at R y) (w.owners y h.0)
+        ap (λ m. not (eqb m 0) && eqb (note_class (item_at Q m)) c) (ap owner (fed_old y h)) ∙ go (note_at R y) (w.owners y h.0)
       where
         go : (m : ℕ) → m ≤ length R → (not (eqb m 0) && eqb (note_class (item_at Q m)) c) ≡ (not (eqb m 0) && eqb (note_class (item_at R m)) c)
         go zero k = refl
@@ -217,7 +217,7 @@ module _ (R : List Row) (t : Item) (ts : List Item) (ok : Feedable t ts) where
           news_note (is_body Q) e ∙
           kept_by_none (is_body Q) (span (number + 1) (length ts))
           (later_each (λ y. is_body Q y ≡ false) (λ y h k. ap (λ m. eqb m 0) (later_note y h k) ∙ ne_eqb number 0 (λ z. omega arith)))
-      go false e = news_word (is_body Q) e (ok.alone e) ∙ cond-true (is_body Q number) (number ∷ []) [] (ap (λ r. eqb r.note 0) fed_here)
+      go false e = news_word (is_body Q) e (ok.alone e) ∙ cond-true (is_body Q number) (number ∷ []) [] (ap (λ r. eqb (owner r) 0) fed_here)
 
   pub new_texts : (c : ℕ) → news (is_text Q c) ≡ cond (is_note t) (cond (eqb (note_class t) c) (span (number + 1) (length ts)) []) []
   new_texts c = go (is_note t) refl
@@ -235,4 +235,4 @@ module _ (R : List Row) (t : Item) (ts : List Item) (ok : Feedable t ts) where
       go true e = news_note (is_text Q c) e ∙ pick (eqb (note_class t) c) refl
       go false e =
           news_word (is_text Q c) e (ok.alone e) ∙
-          cond-false (is_text Q c number) (number ∷ []) [] (ap (λ r. not (eqb r.note 0) && eqb (note_class (item_at Q r.note)) c) fed_here)
+          cond-false (is_text Q c number) (number ∷ []) [] (ap (λ r. not (eqb (owner r) 0) && eqb (note_class (item_at Q (owner r))) c) fed_here)

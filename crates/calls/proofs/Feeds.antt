@@ -1,5 +1,5 @@
 -- A feed that is not refused keeps the invariant.
-use Rattle.std.proofs.Common.{◌≡◌, ℕ, zero, suc, ◌+◌, ◌<◌, ◌≤◌, Bool, true, false, cond, not, ◌&&◌, eqb, List, [], ◌∷◌, ◌++◌, map, length, None, filter, sym, refl, ap, ◌∙◌, subst, ap₂, append_assoc, arith}
+use Rattle.std.proofs.Common.{◌≡◌, ℕ, zero, suc, ◌+◌, ◌<◌, ◌≤◌, Bool, true, false, cond, not, ◌&&◌, eqb, List, [], ◌∷◌, ◌++◌, map, length, Some, None, filter, sym, refl, ap, ◌∙◌, subst, ap₂, append_assoc, arith}
 use Rattle.std.specs.List.{AllByRecursion}
 use Rattle.std.proofs.lemmas.List.{append-nil, map-append}
 use Rattle.std.proofs.lemmas.List.Elements.{filter-append}
@@ -11,7 +11,7 @@ use Rattle.items.specs.declared.Place.{Place}
 use Rattle.items.specs.declared.Place.TheVariants.{Owed, Shelved, Held, Shipped, Dropped}
 use Rattle.items.specs.Lists.{span}
 use Rattle.items.specs.Items.{is_note, is_discardable, fed_row}
-use Rattle.items.specs.Table.{row_at, item_at, content, remaining, note_at}
+use Rattle.items.specs.Table.{row_at, item_at, content, remaining, owner, note_at}
 use Rattle.calls.specs.Book.{Book}
 use Rattle.calls.specs.Feeding.{refusal, fed_book, counted, content_for}
 use Rattle.calls.specs.Firing.{note_class}
@@ -19,7 +19,8 @@ use Rattle.calls.specs.Runs.{State, is_open}
 use Rattle.calls.specs.Findings.{times, book_of, owed_for, waiting_in, texts, is_dropped, kept_in, body, text_of, lies}
 use Rattle.calls.proofs.ListLaws.{all_left, all_right, all_both, kept_by_same, joined_same}
 use Rattle.calls.proofs.Times.{times_append, times_here, times_kept, all_times, all_from_times}
-use Rattle.calls.proofs.Spans.{length_span, span_in}
+use Rattle.page.proofs.Contents.{length_span}
+use Rattle.calls.proofs.Spans.{span_in}
 use Rattle.calls.proofs.Table.{place_at, gone, is_body, is_text, Inside, texts_inside}
 use Rattle.calls.proofs.Invariant.{is_word, part, parts, parts_append, owes, owes_append, shelf, Inv, HasLeft}
 use Rattle.calls.proofs.Goes.{dropped_there}
@@ -90,13 +91,13 @@ module _ (b : Book) (F : List Item) (held : List ℕ) (i : Inv F (is_open b) hel
   size : length Q ≡ length R + 1 + length ts
   size = fed_size R t ts ok
 
-  here : row_at Q number ≡ fed_row t 0
+  here : row_at Q number ≡ fed_row t None
   here = fed_here R t ts ok
 
   body_shipped : body Q b.shipped ≡ body R b.shipped
   body_shipped =
       kept_by_same (is_body Q) (is_body R) b.shipped
-      (All-weaker (Inside R) (λ y. is_body Q y ≡ is_body R y) (λ y h. ap (λ r. eqb r.note 0) (old y h)) b.shipped (shipped_inside i))
+      (All-weaker (Inside R) (λ y. is_body Q y ≡ is_body R y) (λ y h. ap (λ r. eqb (owner r) 0) (old y h)) b.shipped (shipped_inside i))
 
   text_shipped : (c : ℕ) → text_of Q c b.shipped ≡ text_of R c b.shipped
   text_shipped c =
@@ -119,7 +120,7 @@ module _ (b : Book) (F : List Item) (held : List ℕ) (i : Inv F (is_open b) hel
       ap₂ (λ l k. l ++ (held ++ k)) body_shipped words_more ∙
       regroup (body R b.shipped) held (filter (is_word R) waited) (cond (is_note t) [] (number ∷ []))
       ∙ ap₂ (λ l k. l ++ k) i.bodies (sym (new_bodies R t ts ok)) ∙
-      sym (kept_more R t ts ok (is_body R) (is_body Q) (λ y h. ap (λ r. eqb r.note 0) (old y h)))
+      sym (kept_more R t ts ok (is_body R) (is_body Q) (λ y h. ap (λ r. eqb (owner r) 0) (old y h)))
     where
       regroup : (l h k z : List ℕ) → l ++ (h ++ (k ++ z)) ≡ (l ++ (h ++ k)) ++ z
       regroup l h k z = simp append_assoc
@@ -274,7 +275,7 @@ module _ (b : Book) (F : List Item) (held : List ℕ) (i : Inv F (is_open b) hel
 
   pub inv_fed : Inv (F ++ (t ∷ ts)) (is_open new) held
   inv_fed = record {
-    listed = map-append (λ (r : Row). r.item) R (fed_row t 0 ∷ map (λ u. fed_row u number) ts) ∙ ap₂ (λ l k. l ++ t ∷ k) i.listed (items ts);
+    listed = map-append (λ (r : Row). r.item) R (fed_row t None ∷ map (λ u. fed_row u (Some number)) ts) ∙ ap₂ (λ l k. l ++ t ∷ k) i.listed (items ts);
     eight = i.eight;
     shelves = i.shelves;
     formed = fed_formed R t ts ok i.formed;
@@ -289,7 +290,7 @@ module _ (b : Book) (F : List Item) (held : List ℕ) (i : Inv F (is_open b) hel
     pages = i.pages;
   }
     where
-      items : (us : List Item) → map (λ (r : Row). r.item) (map (λ u. fed_row u number) us) ≡ us
+      items : (us : List Item) → map (λ (r : Row). r.item) (map (λ u. fed_row u (Some number)) us) ≡ us
       items [] = refl
       items (u ∷ us) = ap (λ l. u ∷ l) (items us)
 

@@ -1,10 +1,10 @@
 -- A firing keeps the invariant. No more is to come after it than before, and less where nothing came out.
-use Rattle.std.proofs.Common.{◌≡◌, ℕ, zero, suc, ◌+◌, ◌<◌, ◌≤◌, min, Bool, true, false, cond, not, eqb, ◌⊎◌, List, [], ◌∷◌, ◌++◌, length, get_or, take, drop, replicate, ℤ, filter, sym, refl, ap, ◌∙◌, subst, ap₂, inl, inr, append_assoc, arith}
+use Rattle.std.proofs.Common.{◌≡◌, ℕ, zero, suc, ◌+◌, ◌<◌, ◌≤◌, min, Bool, true, false, cond, not, ◌⊎◌, List, [], ◌∷◌, ◌++◌, length, get_or, take, drop, replicate, ℤ, None, is_none, filter, sym, refl, ap, ◌∙◌, subst, ap₂, inl, inr, append_assoc, arith}
 use Rattle.std.specs.List.{flat_map, AllByRecursion}
 use Rattle.std.proofs.lemmas.List.{append-nil, take-append-drop, get_or-replicate, get_or_past}
 use Rattle.std.proofs.lemmas.List.Elements.{filter-append}
 use Rattle.std.proofs.ByRecursion.{All-weaker, kept_by_passes}
-use Rattle.std.proofs.lemmas.Bool.{false≢true, not-true, or_from, ne_eqb, cases_lt}
+use Rattle.std.proofs.lemmas.Bool.{false≢true, not-true, or_from, cases_lt}
 use Rattle.items.specs.declared.Item.{Item}
 use Rattle.items.specs.declared.Row.{Row}
 use Rattle.items.specs.declared.Piece.{Piece}
@@ -21,9 +21,9 @@ use Rattle.calls.specs.Runs.{State, is_open, is_fired}
 use Rattle.calls.specs.Findings.{times, owed_for, owed, shelved, texts, is_dropped, kept_in, body, text_of, lies}
 use Rattle.calls.proofs.ListLaws.{kept_by_all, joined_none}
 use Rattle.calls.proofs.Times.{times_append, all_fewer, length_fewer, length_same, split_times, split_joined}
-use Rattle.calls.proofs.Table.{from_one, spent_at, place_at, Inside, part_kept, Alike, alike_self, alike_stamped, alike_texts, alike_body, alike_text_of, alike_kept}
-use Rattle.calls.proofs.Invariant.{no_words, page_inside, formed_alike, is_word, part, parts, parts_append, owes, owes_append, shelf, to_come, HasLeft, Inv, same_left, same_parts, same_owes, same_words, same_inside, lies_still}
-use Rattle.calls.proofs.Pages.{Classed, page_each, FirstNote, BreakFor}
+use Rattle.calls.proofs.Table.{spent_at, place_at, Inside, part_kept, Alike, alike_self, alike_stamped, alike_texts, alike_body, alike_text_of, alike_kept}
+use Rattle.calls.proofs.Invariant.{no_words, formed_alike, is_word, part, parts, parts_append, owes, owes_append, shelf, to_come, HasLeft, Inv, same_left, same_parts, same_owes, same_words, same_inside, lies_still}
+use Rattle.calls.proofs.Pages.{Sound, page_each, FirstNote, BreakFor}
 use Rattle.calls.proofs.Goes.{mid, dropped_there}
 use Rattle.calls.proofs.Sorts.{Sort, Onto, Brings, sort_all, first_brings}
 use Rattle.calls.proofs.NoteRows.{part_none}
@@ -138,8 +138,8 @@ module _ (b : Book) (at : PageBreak) (F : List Item) (held : List ℕ) (i : Inv 
     pages = i.pages;
   }
 
-  sound : (c : ℕ) → Classed R (class_of (on_page b) c)
-  sound = page_each (ground_of b) b.rows b.page (from_one R b.page (page_inside i))
+  sound : (c : ℕ) → Sound R (class_of (on_page b) c)
+  sound = page_each (ground_of b) b.rows b.page
 
   first_sort : Sort b rest bod pen F held (on_page b) sound at.last (unsorted b) notes
   first_sort = record { inv = start; eight = refl; like = alike_self R; fresh = same notes; order = λ c h. tt }
@@ -214,8 +214,8 @@ module _ (b : Book) (at : PageBreak) (F : List Item) (held : List ℕ) (i : Inv 
           let l = subst (λ l. FirstNote b.rows l at) e k.first g in
           by_notes (x ∷ ns) q (first_brings b rest bod pen F held (on_page b) sound at.last x ns (unsorted b)
           (subst (Sort b rest bod pen F held (on_page b) sound at.last (unsorted b)) q first_sort)
-          (or_from (get_or (replicate 8 false) (note_class (item_at b.rows x)) false) (eqb (get_or at.last (note_class (item_at b.rows x)) 0) 0) (unshut (note_class (item_at b.rows x)) (cases_lt (note_class (item_at b.rows x)) 8))
-          (ne_eqb (get_or at.last (note_class (item_at b.rows x)) 0) 0 (λ z. omega arith))))
+          (or_from (get_or (replicate 8 false) (note_class (item_at b.rows x)) false) (is_none (get_or at.last (note_class (item_at b.rows x)) None)) (unshut (note_class (item_at b.rows x)) (cases_lt (note_class (item_at b.rows x)) 8))
+          (ap not l)))
       at_first x xs n e f false g =
           let ws = filter (λ x. not (is_note (item_at b.rows x))) (take n xs) in
           let q : body_before b at ≡ x ∷ ws =

@@ -1,5 +1,5 @@
 -- Along every list of calls the invariant holds. Besides, the best break is a break of the page, and a book that is done has nothing left.
-use Rattle.std.proofs.Common.{◌≡◌, ℕ, ◌+◌, ◌-◌, ◌≤◌, Bool, true, false, List, [], ◌∷◌, ◌++◌, length, get_or, Some, None, Option, sym, refl, ap, ◌∙◌, subst, ap₂, append_assoc, arith, length-append}
+use Rattle.std.proofs.Common.{◌≡◌, ℕ, ◌+◌, ◌-◌, ◌≤◌, Bool, true, false, List, [], ◌∷◌, ◌++◌, length, get_or, Some, None, is_some, Option, sym, refl, ap, ◌∙◌, subst, ap₂, append_assoc, arith, length-append}
 use Rattle.std.specs.List.{flat_map, AllByRecursion}
 use Rattle.std.proofs.lemmas.List.{append-nil, get_or_append_left}
 use Rattle.std.proofs.ByRecursion.{All-weaker}
@@ -80,7 +80,7 @@ best_push rows page x (Some at) h = record {
 first_same : (old new : List Row) (page : List ℕ) (at : PageBreak) → AllByRecursion (λ x. item_at new x ≡ item_at old x) page → FirstNote old page at →
     FirstNote new page at
 first_same old new [] at a f = tt
-first_same old new (x ∷ xs) at a f = λ n. subst (λ i. 1 ≤ get_or at.last (note_class i) 0) (sym a.0) (f (sym (ap is_note a.0) ∙ n))
+first_same old new (x ∷ xs) at a f = λ n. subst (λ i. is_some (get_or at.last (note_class i) None) ≡ true) (sym a.0) (f (sym (ap is_note a.0) ∙ n))
 
 best_same : (old new : List Row) (page : List ℕ) (o : Option PageBreak) → AllByRecursion (λ x. item_at new x ≡ item_at old x) page → BestFor old page o →
     BestFor new page o
@@ -214,7 +214,7 @@ module _ (capacity : ℕ) {P : Type 0} (held : P → List ℕ) (rule : Rule P) w
   onward_holds {F} i (fire {h = h} r e) = more F h fired refl (fire_holds (onward_holds i r) e)
   onward_holds {F} i (settle {h = h} {r = n} r e) = more F h (settled n) refl (settle_holds held rule (onward_holds i r) e)
 
-  pub made_holds : (others : List ℕ) (s : Settings) (cs : List Class) (p : P) → acceptable capacity others s cs ≡ true → held p ≡ [] →
+  pub made_holds : (others : List ℕ) (s : Settings) (cs : List (Option Class)) (p : P) → acceptable capacity others s cs ≡ true → held p ≡ [] →
       Holds [] (is_open (empty_book s cs)) (held p)
   made_holds others s cs p e f =
       subst (λ l. Holds [] (is_open (empty_book s cs)) l) (sym f)

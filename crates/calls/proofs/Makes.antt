@@ -1,5 +1,5 @@
 -- A book just made satisfies the invariant, and a close keeps it.
-use Rattle.std.proofs.Common.{◌≡◌, ℕ, zero, suc, true, ◌&&◌, eqb, List, [], ◌++◌, length, get_or, replicate, refl, ap, arith}
+use Rattle.std.proofs.Common.{◌≡◌, ℕ, zero, suc, true, ◌&&◌, eqb, List, [], ◌++◌, length, get_or, replicate, Option, refl, ap, arith}
 use Rattle.std.specs.List.{list_all}
 use Rattle.std.proofs.lemmas.Bool.{eqb-true, and_parts, false≢true}
 use Rattle.items.specs.declared.Item.{Item}
@@ -7,7 +7,7 @@ use Rattle.items.specs.declared.Item.TheVariants.{Box, Note}
 use Rattle.items.specs.declared.Piece.{Piece}
 use Rattle.items.specs.declared.Settings.{Settings}
 use Rattle.items.specs.declared.Class.{Class}
-use Rattle.items.specs.Limits.{settings_within, class_within}
+use Rattle.items.specs.Limits.{settings_within, declared_within}
 use Rattle.items.specs.Table.{shelf_items}
 use Rattle.calls.specs.Book.{Book}
 use Rattle.calls.specs.Making.{empty_book, tables_within, acceptable}
@@ -21,7 +21,7 @@ no_shelf zero c = refl
 no_shelf (suc n) zero = refl
 no_shelf (suc n) (suc c) = no_shelf n c
 
-pub inv_made : (capacity : ℕ) (others : List ℕ) (s : Settings) (cs : List Class) → acceptable capacity others s cs ≡ true →
+pub inv_made : (capacity : ℕ) (others : List ℕ) (s : Settings) (cs : List (Option Class)) → acceptable capacity others s cs ≡ true →
     Inv [] (is_open (empty_book s cs)) []
 inv_made capacity others s cs e = record {
   listed = refl;
@@ -44,8 +44,8 @@ inv_made capacity others s cs e = record {
   pages = tt;
 }
   where
-    front : ((tables_within capacity others && settings_within s && eqb (length cs) 8) ≡ true) × (list_all class_within cs ≡ true)
-    front = and_parts (tables_within capacity others && settings_within s && eqb (length cs) 8) (list_all class_within cs) e
+    front : ((tables_within capacity others && settings_within s && eqb (length cs) 8) ≡ true) × (list_all declared_within cs ≡ true)
+    front = and_parts (tables_within capacity others && settings_within s && eqb (length cs) 8) (list_all declared_within cs) e
 
     no_note : {c k : ℕ} → Box 0 0 ≡ Note c k → ⊥
     no_note f = let z : ◌≡◌ {A = ℕ} 0 1 = cc in omega arith

@@ -19,7 +19,8 @@ use Rattle.calls.specs.Firing.{note_class, shelve}
 use Rattle.calls.specs.Findings.{times, owed_for, texts, is_dropped, kept_in, body, text_of}
 use Rattle.calls.proofs.ListLaws.{joined_append, all_both, joined_none, joined_same}
 use Rattle.calls.proofs.Times.{times_append, all_apart, joined_set}
-use Rattle.calls.proofs.Spans.{length_span, drop_span, take_span, span_from, span_to_some}
+use Rattle.page.proofs.Contents.{length_span}
+use Rattle.calls.proofs.Spans.{drop_span, take_span, span_from, span_to_some}
 use Rattle.calls.proofs.Table.{from_one, spent_at, place_at, gone, is_body, is_text, Inside, part_kept, length_change, Alike, alike_then, alike_put, alike_spending, alike_body, alike_text_of, alike_kept, gone_put, row_other, rows_other, place_in, kept_drop, kept_drop_other}
 use Rattle.calls.proofs.Invariant.{is_word, part, parts, parts_append, owes, owes_append}
 

@@ -1,5 +1,5 @@
 -- One more call leads on from a book that calls lead to.
-use Rattle.std.proofs.Common.{◌≡◌, ℕ, true, false, List, [], ◌∷◌, ◌++◌, None, refl}
+use Rattle.std.proofs.Common.{◌≡◌, ℕ, true, false, List, [], ◌∷◌, ◌++◌, None, Option, refl}
 use Rattle.items.specs.declared.Item.{Item}
 use Rattle.items.specs.declared.Settings.{Settings}
 use Rattle.items.specs.declared.Class.{Class}
@@ -8,7 +8,7 @@ use Rattle.calls.specs.Making.{empty_book, acceptable}
 use Rattle.calls.specs.Feeding.{refusal, fed_book, closed_book}
 use Rattle.calls.specs.Runs.{Call, fed, closed, State, is_open, Onward, none, feed, close, Run, made, AnyRule, Reached}
 
-pub reached_made : (capacity : ℕ) (others : List ℕ) (s : Settings) (cs : List Class) → acceptable capacity others s cs ≡ true → Reached capacity (empty_book s cs)
+pub reached_made : (capacity : ℕ) (others : List ℕ) (s : Settings) (cs : List (Option Class)) → acceptable capacity others s cs ≡ true → Reached capacity (empty_book s cs)
 reached_made capacity others s cs e = record { held = []; calls = []; run = made others s cs e refl none }
 
 -- the links of a list of calls

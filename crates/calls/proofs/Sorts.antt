@@ -1,7 +1,8 @@
 -- The notes before a break, sorted in order: the invariant is kept, no more is to come, and the first note brings something.
-use Rattle.std.proofs.Common.{◌≡◌, ℕ, suc, ◌+◌, ◌<◌, ◌≤◌, Bool, true, false, cond, ◌&&◌, ◌||◌, eqb, ◌⊎◌, List, [], ◌∷◌, ◌++◌, map, length, get_or, take, drop, set, ℤ, fold, sym, refl, ap, ◌∙◌, subst, ap₂, inl, inr, append_assoc, arith, length-append, length-drop, length-take}
+use Rattle.std.proofs.Common.{◌≡◌, ℕ, suc, ◌+◌, ◌<◌, ◌≤◌, Bool, true, false, cond, ◌&&◌, ◌||◌, eqb, ◌⊎◌, List, [], ◌∷◌, ◌++◌, map, length, get_or, take, drop, set, ℤ, fold, sym, refl, ap, ◌∙◌, subst, ap₂, inl, inr, Some, None, Option, unwrap_or, append_assoc, arith, length-append, length-drop, length-take}
 use lib.ListN.{length-map}
 use Rattle.std.specs.List.{prefix_len, flat_map, AllByRecursion}
+use Rattle.std.specs.Option.{is_some, is_none, option_and_then}
 use Rattle.std.proofs.lemmas.List.{length-set, get_or-set_same, get_or-set_other, drop_all, drop-map}
 use Rattle.std.proofs.ByRecursion.{All-append}
 use Rattle.std.proofs.lemmas.Bool.{cases_lt, eqb-true, eqb-false, false≢true, and_parts, or_parts}
@@ -16,14 +17,14 @@ use Rattle.page.specs.declared.PageSoFar.{PageSoFar}
 use Rattle.page.specs.PageSoFar.{class_of}
 use Rattle.page.specs.Breaks.{empty}
 use Rattle.calls.specs.Book.{Book}
-use Rattle.calls.specs.Firing.{note_class, Sorting, waits, goes, sorts, is_last_note, is_split_note, is_shut}
+use Rattle.calls.specs.Firing.{note_class, Sorting, waits, goes, sorts, is_last_note, split_at, is_shut}
 use Rattle.calls.specs.Runs.{State}
 use Rattle.calls.specs.Findings.{times, waiting_in}
 use Rattle.calls.proofs.ListLaws.{all_left, all_right, all_both}
 use Rattle.calls.proofs.Times.{times_append, times_here, all_apart, length_fewer, length_same}
 use Rattle.calls.proofs.Table.{from_one, spent_at, Inside, Alike, alike_then}
 use Rattle.calls.proofs.Invariant.{to_come, HasLeft, Inv}
-use Rattle.calls.proofs.Pages.{Classed}
+use Rattle.calls.proofs.Pages.{Classed, Sound}
 use Rattle.calls.proofs.Goes.{goes_weighs, goes_grows, mid, inv_goes}
 use Rattle.calls.proofs.NoteRows.{still, shelved_part, rest_part, dropped_part, rows_spent, goes_alike, spent_other, note_class_lem}
 
@@ -37,8 +38,8 @@ leading_may R (x ∷ xs) = go (is_discardable (item_at R x)) refl (leading_may R
     go true e i = let f : 1 + prefix_len is_discardable (items_at R xs) ≡ suc (prefix_len is_discardable (items_at R xs)) = omega arith in rw f (e, i)
     go false e i = tt
 
-module _ (b : Book) (rest bod : List ℕ) (p : ℤ) (F : List Item) (held : List ℕ) (m : PageSoFar) (sound : (c : ℕ) → Classed b.rows (class_of m c))
-    (last : List ℕ) where
+module _ (b : Book) (rest bod : List ℕ) (p : ℤ) (F : List Item) (held : List ℕ) (m : PageSoFar) (sound : (c : ℕ) → Sound b.rows (class_of m c))
+    (last : List (Option ℕ)) where
   -- a sorting on its way, with the notes still to be sorted: these are as the book had them, and of a class that is not shut
   -- no note waits yet
   pub record Sort (s : Sorting) (todo : List ℕ) : Type 0 where
@@ -150,7 +151,7 @@ module _ (b : Book) (rest bod : List ℕ) (p : ℤ) (F : List Item) (held : List
               let same = eqb-true cl c e in
               let l : is_last ≡ false =
               sym (get_or-set_same s.through cl is_last false room) ∙ ap (λ z. get_or (set s.through cl is_last) z false) same ∙
-              (or_parts (get_or (set s.through cl is_last) c false) (eqb (get_or last c 0) 0) h).0 in
+              (or_parts (get_or (set s.through cl is_last) c false) (is_none (get_or last c None)) h).0 in
               subst (λ z. AllByRecursion (λ w. eqb (note_class (item_at s.rows w)) c ≡ false) (cond (empty z) s.waiting (s.waiting ++ x ∷ [])))
               (sym (ends l)) (subst (λ z. AllByRecursion (λ w. eqb (note_class (item_at s.rows w)) z ≡ false) s.waiting) same (i.order cl t))
           pick false e = go (rest_part s.rows x n d)
@@ -158,7 +159,7 @@ module _ (b : Book) (rest bod : List ℕ) (p : ℤ) (F : List Item) (held : List
               old : AllByRecursion (λ w. eqb (note_class (item_at s.rows w)) c ≡ false) s.waiting
               old =
                   i.order c
-                  (ap (λ g. g || eqb (get_or last c 0) 0) (sym (get_or-set_other s.through cl c is_last false (λ z. eqb-false cl c e (sym z)))) ∙ h)
+                  (ap (λ g. g || is_none (get_or last c None)) (sym (get_or-set_other s.through cl c is_last false (λ z. eqb-false cl c e (sym z)))) ∙ h)
 
               go : (z : List ℕ) → AllByRecursion (λ w. eqb (note_class (item_at s.rows w)) c ≡ false) (cond (empty z) s.waiting (s.waiting ++ x ∷ []))
               go [] = old
@@ -212,75 +213,93 @@ module _ (b : Book) (rest bod : List ℕ) (p : ℤ) (F : List Item) (held : List
               let k = length-drop n (remaining s.rows x) in
               omega arith)
 
-    abbrev here : ClassSoFar
+    abbrev here : Option ClassSoFar
     here = class_of m cl
 
     abbrev is_last_here : Bool
     is_last_here = is_last_note last s x
 
-    abbrev is_split : Bool
-    is_split = is_split_note m last s x
+    abbrev cut : Option ℕ
+    cut = split_at m last s x
 
     abbrev left : List ℕ
     left = remaining s.rows x
 
-    abbrev count : Bool → ℕ
-    count t = cond t here.before (length left)
+    abbrev count : Option ℕ → ℕ
+    count t = unwrap_or t (length left)
 
-    abbrev drops : Bool → ℕ
-    drops t = cond t (prefix_len is_discardable (items_at s.rows (drop (count t) left))) 0
+    abbrev drops : Option ℕ → ℕ
+    drops t = cond (is_some t) (prefix_len is_discardable (items_at s.rows (drop (count t) left))) 0
 
     same_left : remaining s.rows x ≡ remaining b.rows x
     same_left = ap₂ (λ (it : ℕ → Item) n. content (it x) x n) i.like.item i.fresh.0
 
-    count_few : (t : Bool) → is_split ≡ t → count t ≤ length left
-    count_few true e =
-        let q = and_parts (is_last_here && here.split) (eqb x here.last) e in
-        let o = (sound cl).within (and_parts is_last_here here.split q.0).1 in
-        let u = length-map (remaining b.rows here.last) (λ y. item_at b.rows y) in
-        let w = ap (λ z. length (remaining b.rows z)) (eqb-true x here.last q.1) in
+    -- a note that the page splits is the last of its class
+    record Cut (n : ℕ) : Type 0 where
+      pub class : ClassSoFar
+      pub is : here ≡ Some class
+      pub broken : class.broken ≡ Some n
+      pub is_last : is_last_here ≡ true
+      pub same : x ≡ class.last
+
+    cut_is : (n : ℕ) → cut ≡ Some n → Cut n
+    cut_is n e = go here refl e
+      where
+        at : (k : ClassSoFar) → here ≡ Some k → (t : Bool) → is_last_here && eqb x k.last ≡ t → cond t k.broken None ≡ Some n → Cut n
+        at k f true g e = let q = and_parts is_last_here (eqb x k.last) g in record { class = k; is = f; broken = e; is_last = q.0; same = eqb-true x k.last q.1 }
+        at k f false g e = cc
+
+        go : (o : Option ClassSoFar) → here ≡ o → option_and_then (λ k. cond (is_last_here && eqb x k.last) k.broken None) o ≡ Some n → Cut n
+        go None f e = cc
+        go (Some k) f e = at k f (is_last_here && eqb x k.last) refl e
+
+    classed : (n : ℕ) (e : cut ≡ Some n) → Classed b.rows (cut_is n e).class
+    classed n e = subst (Sound b.rows) (cut_is n e).is (sound cl)
+
+    count_few : (t : Option ℕ) → cut ≡ t → count t ≤ length left
+    count_few (Some n) e =
+        let q = cut_is n e in
+        let o = (classed n e).within n q.broken in
+        let u = length-map (remaining b.rows q.class.last) (λ y. item_at b.rows y) in
+        let w = ap (λ z. length (remaining b.rows z)) q.same in
         let v = ap length same_left in
         omega arith
-    count_few false e = omega arith
+    count_few None e = omega arith
 
-    drops_may : (t : Bool) → AllByRecursion (λ y. is_discardable (item_at s.rows y) ≡ true) (dropped_part s.rows x (count t) (drops t))
-    drops_may true = leading_may s.rows (drop here.before left)
-    drops_may false = tt
+    drops_may : (t : Option ℕ) → AllByRecursion (λ y. is_discardable (item_at s.rows y) ≡ true) (dropped_part s.rows x (count t) (drops t))
+    drops_may (Some n) = leading_may s.rows (drop n left)
+    drops_may None = tt
 
-    rest_ends : (t : Bool) → is_split ≡ t → is_last_here ≡ false → rest_part s.rows x (count t) (drops t) ≡ []
-    rest_ends true e f =
-        absurd (false≢true (sym f ∙ (and_parts is_last_here here.split (and_parts (is_last_here && here.split) (eqb x here.last) e).0).0))
-    rest_ends false e f = drop_all (length left + 0) left (omega arith)
+    rest_ends : (t : Option ℕ) → cut ≡ t → is_last_here ≡ false → rest_part s.rows x (count t) (drops t) ≡ []
+    rest_ends (Some n) e f = absurd (false≢true (sym f ∙ (cut_is n e).is_last))
+    rest_ends None e f = drop_all (length left + 0) left (omega arith)
 
     -- where a note is split its break stands at no box, so that something goes
-    some_goes : (t : Bool) → is_split ≡ t → 1 ≤ length left → 1 ≤ count t + drops t
-    some_goes true e l = by (cases_lt here.before (length left))
+    some_goes : (t : Option ℕ) → cut ≡ t → 1 ≤ length left → 1 ≤ count t + drops t
+    some_goes (Some n) e l = by (cases_lt n (length left))
       where
-        q : (is_last_here && here.split ≡ true) × (eqb x here.last ≡ true)
-        q = and_parts (is_last_here && here.split) (eqb x here.last) e
-
-        same_items : items_at s.rows (drop here.before left) ≡ drop here.before (items_at b.rows (remaining b.rows here.last))
+        same_items : items_at s.rows (drop n left) ≡ drop n (items_at b.rows (remaining b.rows (cut_is n e).class.last))
         same_items =
-            ap₂ (λ (it : ℕ → Item) k. map it (drop here.before k)) i.like.item
-            (same_left ∙ ap (remaining b.rows) (eqb-true x here.last q.1))
-            ∙ sym (drop-map (λ y. item_at b.rows y) here.before (remaining b.rows here.last))
+            ap₂ (λ (it : ℕ → Item) k. map it (drop n k)) i.like.item
+            (same_left ∙ ap (remaining b.rows) (cut_is n e).same)
+            ∙ sym (drop-map (λ y. item_at b.rows y) n (remaining b.rows (cut_is n e).class.last))
 
-        at_none : Droppable (items_at s.rows (drop here.before left))
-        at_none = subst Droppable (sym same_items) ((sound cl).drops (and_parts is_last_here here.split q.0).1)
+        at_none : Droppable (items_at s.rows (drop n left))
+        at_none = subst Droppable (sym same_items) ((classed n e).drops n (cut_is n e).broken)
 
         leads : (xs : List Item) → Droppable xs → 1 ≤ length xs → 1 ≤ prefix_len is_discardable xs
         leads [] k h = absurd (omega arith)
         leads (y ∷ xs) k h = rw k (omega arith)
 
-        by : (here.before < length left) ⊎ (length left ≤ here.before) →
-            1 ≤ here.before + prefix_len is_discardable (items_at s.rows (drop here.before left))
+        by : (n < length left) ⊎ (length left ≤ n) →
+            1 ≤ n + prefix_len is_discardable (items_at s.rows (drop n left))
         by (inl h) =
-            let a = length-drop here.before left in
-            let c = length-map (drop here.before left) (λ y. item_at s.rows y) in
-            let k = leads (items_at s.rows (drop here.before left)) at_none (omega arith) in
+            let a = length-drop n left in
+            let c = length-map (drop n left) (λ y. item_at s.rows y) in
+            let k = leads (items_at s.rows (drop n left)) at_none (omega arith) in
             omega arith
         by (inr h) = omega arith
-    some_goes false e l = omega arith
+    some_goes None e l = omega arith
 
     -- what sorting one note leads to
     pub record Sorted (t : Sorting) : Type 0 where
@@ -294,7 +313,7 @@ module _ (b : Book) (rest bod : List ℕ) (p : ℤ) (F : List Item) (held : List
         has : 1 ≤ length (remaining s.rows x)
         has = (of_notes (HasLeft s.rows) i.inv.left).0 isnote
 
-        go : (t : Bool) → is_shut last s.through cl ≡ t → Sorted (cond t (waits s x) (goes s x cl (count is_split) (drops is_split) is_last_here))
+        go : (t : Bool) → is_shut last s.through cl ≡ t → Sorted (cond t (waits s x) (goes s x cl (count cut) (drops cut) is_last_here))
         go true e =
             let same : s.waiting ++ x ∷ todo ≡ (s.waiting ++ x ∷ []) ++ todo = sym (append_assoc s.waiting (x ∷ []) todo) in
             record {
@@ -306,11 +325,11 @@ module _ (b : Book) (rest bod : List ℕ) (p : ℤ) (F : List Item) (held : List
               brings = λ f. absurd (false≢true (sym f ∙ e));
             }
         go false e = record {
-          sort = sort_goes (count is_split) (drops is_split) is_last_here e (count_few is_split refl) (drops_may is_split) (rest_ends is_split refl);
-          onto = onto_goes (count is_split) (drops is_split) is_last_here e (count_few is_split refl) (drops_may is_split) (rest_ends is_split refl);
+          sort = sort_goes (count cut) (drops cut) is_last_here e (count_few cut refl) (drops_may cut) (rest_ends cut refl);
+          onto = onto_goes (count cut) (drops cut) is_last_here e (count_few cut refl) (drops_may cut) (rest_ends cut refl);
           brings = λ f.
-              goes_brings (count is_split) (drops is_split) is_last_here e (count_few is_split refl) (drops_may is_split) (rest_ends is_split refl)
-              (some_goes is_split refl has) has;
+              goes_brings (count cut) (drops cut) is_last_here e (count_few cut refl) (drops_may cut) (rest_ends cut refl)
+              (some_goes cut refl has) has;
         }
 
   pub sort_all : (todo : List ℕ) (s : Sorting) → Sort s todo → Sort (fold (sorts m last) s todo) [] × Onto s (fold (sorts m last) s todo) todo []

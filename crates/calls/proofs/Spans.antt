@@ -1,13 +1,9 @@
 -- Runs of numbers.
-use Rattle.std.proofs.Common.{◌≡◌, ℕ, zero, suc, ◌+◌, ◌-◌, ◌<◌, ◌≤◌, Bool, true, false, cond, eqb, ◌∷◌, ◌++◌, length, take, drop, refl, ap, ◌∙◌, ap₂, arith}
+use Rattle.std.proofs.Common.{◌≡◌, ℕ, zero, suc, ◌+◌, ◌-◌, ◌<◌, ◌≤◌, Bool, true, false, cond, eqb, ◌∷◌, ◌++◌, take, drop, refl, ap, ◌∙◌, ap₂, arith}
 use Rattle.std.specs.List.{AllByRecursion}
 use Rattle.std.proofs.lemmas.Bool.{eqb-true, eqb-false, ne_eqb}
 use Rattle.items.specs.Lists.{span}
 use Rattle.calls.specs.Findings.{times}
-
-pub length_span : (a n : ℕ) → length (span a n) ≡ n
-length_span a zero = refl
-length_span a (suc n) = ap suc (length_span (suc a) n)
 
 pub span_append : (a m n : ℕ) → span a (m + n) ≡ span a m ++ span (a + m) n
 span_append a zero n = ap₂ span (omega arith) (omega arith)

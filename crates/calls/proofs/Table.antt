@@ -11,7 +11,7 @@ use Rattle.items.specs.declared.Place.{Place}
 use Rattle.items.specs.declared.Place.TheVariants.{Dropped}
 use Rattle.items.specs.Lists.{span}
 use Rattle.items.specs.Items.{is_note, blank, items_of}
-use Rattle.items.specs.Table.{row_at, item_at, change, change_all, put, stamped, spending, note_at}
+use Rattle.items.specs.Table.{row_at, item_at, change, change_all, put, stamped, spending, owner, note_at}
 use Rattle.calls.specs.Firing.{note_class}
 use Rattle.calls.specs.Findings.{times, texts, is_dropped, kept_in, body, text_of}
 use Rattle.calls.proofs.ListLaws.{kept_by_and, kept_by_swap}
@@ -82,12 +82,12 @@ alike_self R = record { size = refl; item = refl; note = refl; items = refl }
 pub alike_then : {R Q S : List Row} → Alike R Q → Alike Q S → Alike R S
 alike_then a b = record { size = b.size ∙ a.size; item = b.item ∙ a.item; note = b.note ∙ a.note; items = b.items ∙ a.items }
 
-pub alike_change : (f : Row → Row) → ((r : Row) → (f r).item ≡ r.item) → ((r : Row) → (f r).note ≡ r.note) → (R : List Row) (xs : List ℕ) →
+pub alike_change : (f : Row → Row) → ((r : Row) → (f r).item ≡ r.item) → ((r : Row) → owner (f r) ≡ owner r) → (R : List Row) (xs : List ℕ) →
     Alike R (change_all f R xs)
 alike_change f h k R xs = record {
   size = length_change f xs R;
   item = fun_ext (λ y. part_kept (λ r. r.item) f h xs R y);
-  note = fun_ext (λ y. part_kept (λ r. r.note) f k xs R y);
+  note = fun_ext (λ y. part_kept owner f k xs R y);
   items = parts_kept (λ r. r.item) f h xs R;
 }
 

@@ -9,7 +9,7 @@ use Rattle.calls.specs.declared.Page.{Page}
 
 pub record Book : Type 0 where
   pub settings : Settings
-  pub classes : List Class
+  pub classes : List (Option Class)
   pub rows : List Row
   pub contributions : List ℕ  -- items and notes that wait for a page
   pub page : List ℕ  -- items and notes on the current page

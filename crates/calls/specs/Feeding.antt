@@ -1,6 +1,6 @@
 -- Feeding a book and closing it, and the place of an item.
 use Rattle.std.specs.Prelude.{ℕ, ◌+◌, Bool, true, cond, not, ◌&&◌, List, [], ◌∷◌, ◌++◌, map, length, Some, None, Option, ◌==◌, nat_le, nat_lt, slice_index_or}
-use Rattle.std.specs.Option.{option_or}
+use Rattle.std.specs.Option.{is_some, option_or}
 use Rattle.items.specs.declared.Item.{Item}
 use Rattle.items.specs.declared.Item.TheVariants.{Box, Glue, Kern, Penalty, Note}
 use Rattle.items.specs.declared.Row.{Row}
@@ -10,7 +10,6 @@ use Rattle.items.specs.declared.refusals.Refusal.{Refusal}
 use Rattle.items.specs.declared.refusals.Cause.{Cause}
 use Rattle.items.specs.declared.refusals.Cause.TheVariants.{Closed, NoContent, Undeclared, Value, Full}
 use Rattle.items.specs.Items.{is_note, within_limits, fed_row}
-use Rattle.items.specs.Limits.{undeclared}
 use Rattle.items.specs.Refusals.{content_refusal}
 use Rattle.items.specs.Table.{row_at, item_at}
 use Rattle.calls.specs.Book.{Book}
@@ -31,11 +30,11 @@ counted (Note c n) content = Note c (length content)
 abbrev pub refused_if : Bool → Cause → Option Refusal
 refused_if test cause = cond test (Some (record { cause = cause; offset = 0 })) None
 
-abbrev pub note_refusal : List Class → ℕ → List Item → Option Refusal
+abbrev pub note_refusal : List (Option Class) → ℕ → List Item → Option Refusal
 note_refusal classes c content =
-    option_or (refused_if (length content == 0) NoContent) (option_or (refused_if (not (slice_index_or classes c undeclared).declared) Undeclared) (content_refusal content))
+    option_or (refused_if (length content == 0) NoContent) (option_or (refused_if (not (is_some (slice_index_or classes c None))) Undeclared) (content_refusal content))
 
-abbrev pub item_refusal : List Class → Item → List Item → Option Refusal
+abbrev pub item_refusal : List (Option Class) → Item → List Item → Option Refusal
 item_refusal classes (Box h d) content = refused_if (not (within_limits (Box h d))) Value
 item_refusal classes (Glue w st o sh) content = refused_if (not (within_limits (Glue w st o sh))) Value
 item_refusal classes (Kern w) content = refused_if (not (within_limits (Kern w))) Value
@@ -43,7 +42,7 @@ item_refusal classes (Penalty v) content = refused_if (not (within_limits (Penal
 item_refusal classes (Note c n) content = note_refusal classes c content
 
 -- the refusal of a feed: the first that applies, where so many rows are in use of a table's
-abbrev pub refusal_of : ℕ → Bool → List Class → ℕ → Item → List Item → Option Refusal
+abbrev pub refusal_of : ℕ → Bool → List (Option Class) → ℕ → Item → List Item → Option Refusal
 refusal_of capacity closed classes used x content =
     option_or (refused_if closed Closed) (option_or (item_refusal classes x content) (refused_if (nat_lt capacity (used + 1 + length (content_for x content))) Full))
 
@@ -52,7 +51,7 @@ refusal capacity b x content = refusal_of capacity b.closed b.classes (length b.
 
 -- the rows of an item, or of a note and its content, as number n is fed
 abbrev pub fed_rows : ℕ → Item → List Item → List Row
-fed_rows n x content = fed_row (counted x content) 0 ∷ map (λ y. fed_row y n) (content_for x content)
+fed_rows n x content = fed_row (counted x content) None ∷ map (λ y. fed_row y (Some n)) (content_for x content)
 
 -- a feed that is not refused
 abbrev pub fed_book : Book → Item → List Item → Book

@@ -1,6 +1,7 @@
 -- What a firing leaves: the body, the shelves, and the notes that wait.
-use Rattle.std.specs.Prelude.{ℕ, zero, suc, ◌+◌, min, Bool, false, cond, not, ◌&&◌, ◌||◌, List, [], ◌∷◌, ◌++◌, length, take, drop, replicate, ℤ, None, fold, filter, ◌==◌, slice_index, slice_index_or, slice_set}
+use Rattle.std.specs.Prelude.{ℕ, zero, suc, ◌+◌, min, Bool, false, cond, not, ◌&&◌, ◌||◌, List, [], ◌∷◌, ◌++◌, length, take, drop, replicate, ℤ, None, fold, filter, Option, ◌==◌, slice_index_or, slice_set, unwrap_or}
 use Rattle.std.specs.List.{prefix_len}
+use Rattle.std.specs.Option.{is_some, is_none, option_map, option_and_then}
 use Rattle.items.specs.declared.Item.{Item}
 use Rattle.items.specs.declared.Item.TheVariants.{Box, Glue, Kern, Penalty, Note}
 use Rattle.items.specs.declared.Row.{Row}
@@ -53,27 +54,30 @@ goes s x c n d is_last =
     }
 
 -- the last note of its class before the break
-abbrev pub is_last_note : List ℕ → Sorting → ℕ → Bool
-is_last_note last s x = x == slice_index last (note_class (item_at s.rows x))
+abbrev pub is_last_note : List (Option ℕ) → Sorting → ℕ → Bool
+is_last_note last s x = unwrap_or (option_map (λ y. x == y) (slice_index_or last (note_class (item_at s.rows x)) None)) false
 
--- and one that the page splits
-abbrev pub is_split_note : PageSoFar → List ℕ → Sorting → ℕ → Bool
-is_split_note m last s x = let here = class_of m (note_class (item_at s.rows x)) in is_last_note last s x && here.split && x == here.last
+-- and, of one that the page splits, how many of its remaining items stand before its break
+abbrev pub split_at : PageSoFar → List (Option ℕ) → Sorting → ℕ → Option ℕ
+split_at m last s x = option_and_then (λ here. cond (is_last_note last s x && x == here.last) here.broken None) (class_of m (note_class (item_at s.rows x)))
+
+abbrev pub is_split_note : PageSoFar → List (Option ℕ) → Sorting → ℕ → Bool
+is_split_note m last s x = is_some (split_at m last s x)
 
 -- how many of its remaining items go to the shelf: those before its break where it is split, all otherwise
-abbrev pub amount : PageSoFar → List ℕ → Sorting → ℕ → ℕ
-amount m last s x = cond (is_split_note m last s x) (class_of m (note_class (item_at s.rows x))).before (length (remaining s.rows x))
+abbrev pub amount : PageSoFar → List (Option ℕ) → Sorting → ℕ → ℕ
+amount m last s x = unwrap_or (split_at m last s x) (length (remaining s.rows x))
 
 -- and how many after them are dropped: those of a split note before the next box
-abbrev pub dropping : PageSoFar → List ℕ → Sorting → ℕ → ℕ
+abbrev pub dropping : PageSoFar → List (Option ℕ) → Sorting → ℕ → ℕ
 dropping m last s x =
     cond (is_split_note m last s x) (prefix_len is_discardable (items_at s.rows (drop (amount m last s x) (remaining s.rows x)))) 0
 
 -- none of a class goes once its last note is through, or where it has none
-abbrev pub is_shut : List ℕ → List Bool → ℕ → Bool
-is_shut last through c = slice_index_or through c false || slice_index last c == 0
+abbrev pub is_shut : List (Option ℕ) → List Bool → ℕ → Bool
+is_shut last through c = slice_index_or through c false || is_none (slice_index_or last c None)
 
-abbrev pub sorts : PageSoFar → List ℕ → Sorting → ℕ → Sorting
+abbrev pub sorts : PageSoFar → List (Option ℕ) → Sorting → ℕ → Sorting
 sorts m last s x =
     let c = note_class (item_at s.rows x) in
     cond (is_shut last s.through c) (waits s x) (goes s x c (amount m last s x) (dropping m last s x) (is_last_note last s x))

@@ -48,7 +48,7 @@ module _ (capacity : ℕ) {P : Type 0} (held : P → List ℕ) (rule : Rule P) w
 
   -- a list of calls from the making on, where the policy holds nothing; `others` are the lengths of the other tables
   pub data Run : List Call → State → P → Type 0 where
-    made : {h : List Call} {t : State} {p q : P} (others : List ℕ) (s : Settings) (cs : List Class) →
+    made : {h : List Call} {t : State} {p q : P} (others : List ℕ) (s : Settings) (cs : List (Option Class)) →
         acceptable capacity others s cs ≡ true → held p ≡ [] → Onward (is_open (empty_book s cs)) p h t q → Run h t q
 
 -- any policy at all: it is what it holds, and may answer anything that loses nothing

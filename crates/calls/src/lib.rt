@@ -4,7 +4,7 @@
 pub mod laws;
 
 // A shipped page: where in the shipping order it begins, and the output penalty of its firing.
-#[derive(Clone, Copy)]
+#[derive(Clone, Copy, PartialEq, Eq, Debug, Default)]
 pub struct Page {
     pub from: usize,
     pub penalty: i32,

@@ -1,7 +1,11 @@
 // The least-cost rule, written once for whatever has a cost.
 ghost use Rattle.std.specs.Prelude.{◌≡◌, ℤ, pos, ◌≤ℤ◌, Some};
 ghost use Rattle.items.specs.Items.{most};
-ghost use Rattle.cost.specs.Least.{least};
+ghost use Rattle.cost.specs.Cost.{stops};
+ghost use Rattle.cost.specs.Least.{least, best_of, is_over};
+
+use crate::stops;
+use std::ops::ControlFlow;
 
 pub trait Costed {
     ghost price: { Self → ℤ };
@@ -25,5 +29,18 @@ pub fn least<C: Costed + Drop>(best: Option<C>, here: C) -> C
             }
         }
         None => here,
+    }
+}
+
+// The best of the candidates so far and one more, with its penalty: `Break` where no candidate is looked at after it.
+pub fn weigh<C: Costed + Drop>(best: Option<C>, here: C, penalty: i32) -> ControlFlow<C, Option<C>>
+    requires { C.Costed.price here ≤ℤ pos most }
+    ensures best { best_of result ≡ least C.Costed.price best here }
+    ensures over { is_over result ≡ stops (C.Costed.price here) penalty }
+{
+    if stops(here.cost(), penalty) {
+        ControlFlow::Break(least(best, here))
+    } else {
+        ControlFlow::Continue(Some(least(best, here)))
     }
 }

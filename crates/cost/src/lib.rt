@@ -1,7 +1,7 @@
 // What a break costs: badness, the cost of a candidate, and when the search for a break ends.
 #![tactic(auto)]
 
-ghost use Rattle.std.specs.Prelude.{◌≡◌, ◌<◌, ℤ, pos};
+ghost use Rattle.std.specs.Prelude.{◌≡◌, ◌<◌};
 ghost use Rattle.cost.specs.Cost.{ratio, badness, Charted, break_cost, stops};
 
 use items::{FORBIDDEN, MOST};

@@ -7,7 +7,7 @@ use crate::badness;
 use items::{Item, MOST};
 
 // `total` is the height without the last depth; the stretch is by order.
-#[derive(Clone, Copy)]
+#[derive(Clone, Copy, PartialEq, Eq, Debug)]
 pub struct Sums {
     pub total: i64,
     pub depth: u32,

@@ -1,5 +1,5 @@
 -- Items of text: their kinds, their limits and their sizes.
-use Rattle.std.specs.Prelude.{ℕ, ◌+◌, Bool, true, false, not, ◌&&◌, List, map, ℤ, pos, nat_le, unsigned_abs}
+use Rattle.std.specs.Prelude.{ℕ, ◌+◌, Bool, true, false, not, ◌&&◌, List, map, ℤ, pos, None, Option, nat_le, unsigned_abs}
 use Rattle.items.specs.declared.Item.{Item}
 use Rattle.items.specs.declared.Item.TheVariants.{Box, Glue, Kern, Penalty, Note}
 use Rattle.items.specs.declared.Row.{Row}
@@ -52,9 +52,9 @@ abbrev pub items_of : List Row → List Item
 items_of rows = map (λ r. r.item) rows
 
 -- the row of an item as it is fed, which a note's content or the body owes
-abbrev pub fed_row : Item → ℕ → Row
-fed_row x note = record { item = x; note = note; spent = 0; place = Owed; firing = 0; goal = pos 0 }
+abbrev pub fed_row : Item → Option ℕ → Row
+fed_row x note = record { item = x; note = note; spent = 0; place = Owed; stamp = None }
 
 -- what a read past the table would give
 abbrev pub blank : Row
-blank = fed_row (Box 0 0) 0
+blank = fed_row (Box 0 0) None

@@ -16,6 +16,10 @@ number_of Nested = 5
 number_of Value = 6
 number_of Full = 7
 
+-- the refusal of an item, a note or a call as a whole
+abbrev pub of_the_whole : Cause → Refusal
+of_the_whole cause = record { cause = cause; offset = 0 }
+
 -- a refusal at the item after the first k, where there is one
 abbrev pub refused_after : Cause → ℕ → List Item → Option Refusal → Option Refusal
 refused_after cause k items otherwise = cond (nat_lt k (length items)) (Some (record { cause = cause; offset = k + 1 })) otherwise

@@ -1,5 +1,5 @@
 -- The item table by the numbers of its rows, what is left of its notes, and changes of its rows.
-use Rattle.std.specs.Prelude.{◌≡◌, ℕ, ◌+◌, ◌-◌, ◌<◌, ◌≤◌, true, false, List, [], map, length, ℤ, fold, slice_index_or, slice_set}
+use Rattle.std.specs.Prelude.{◌≡◌, ℕ, ◌+◌, ◌-◌, ◌<◌, ◌≤◌, true, false, List, [], map, length, ℤ, Some, fold, slice_index_or, unwrap_or, slice_set}
 use Rattle.std.specs.List.{flat_map}
 use Rattle.items.specs.declared.Item.{Item}
 use Rattle.items.specs.declared.Item.TheVariants.{Box, Glue, Kern, Penalty, Note}
@@ -16,8 +16,12 @@ row_at rows x = slice_index_or rows (x - 1) blank
 abbrev pub item_at : List Row → ℕ → Item
 item_at rows x = (row_at rows x).item
 
+-- the note whose content a row is, or 0: numbers of items count from 1
+abbrev pub owner : Row → ℕ
+owner r = unwrap_or r.note 0
+
 abbrev pub note_at : List Row → ℕ → ℕ
-note_at rows x = (row_at rows x).note
+note_at rows x = owner (row_at rows x)
 
 abbrev pub items_at : List Row → List ℕ → List Item
 items_at rows xs = map (λ x. item_at rows x) xs
@@ -64,10 +68,10 @@ abbrev pub change_all : (Row → Row) → List Row → List ℕ → List Row
 change_all f rows xs = fold (change f) rows xs
 
 abbrev pub put : Place → Row → Row
-put p r = record { item = r.item; note = r.note; spent = r.spent; place = p; firing = r.firing; goal = r.goal }
+put p r = record { item = r.item; note = r.note; spent = r.spent; place = p; stamp = r.stamp }
 
 abbrev pub stamped : ℕ → ℤ → Row → Row
-stamped n g r = record { item = r.item; note = r.note; spent = r.spent; place = r.place; firing = n; goal = g }
+stamped n g r = record { item = r.item; note = r.note; spent = r.spent; place = r.place; stamp = Some (record { firing = n; goal = g }) }
 
 abbrev pub spending : ℕ → Row → Row
-spending n r = record { item = r.item; note = r.note; spent = r.spent + n; place = r.place; firing = r.firing; goal = r.goal }
+spending n r = record { item = r.item; note = r.note; spent = r.spent + n; place = r.place; stamp = r.stamp }

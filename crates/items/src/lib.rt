@@ -16,7 +16,7 @@ pub const FORBIDDEN: i32 = 10_000;
 pub const MOST_ROWS: usize = 16_384;
 
 // One item of a galley. A note's content is fed with it and follows it in the item table.
-#[derive(Clone, Copy)]
+#[derive(Clone, Copy, PartialEq, Eq, Debug)]
 pub enum Item {
     Box {
         height: u32,
@@ -25,6 +25,7 @@ pub enum Item {
     Glue {
         width: i32,
         stretch: u32,
+        // a number, since one above 3 may be handed over, and is then refused
         order: u8,
         shrink: u32,
     },
@@ -41,7 +42,7 @@ pub enum Item {
 }
 
 // Where an item of text lies.
-#[derive(Clone, Copy)]
+#[derive(Clone, Copy, PartialEq, Eq, Debug)]
 pub enum Place {
     Owed,
     Shelved,
@@ -50,38 +51,43 @@ pub enum Place {
     Dropped,
 }
 
-// A row of the item table. `note` is the number of the note whose content the item is, or 0 for body text
-// and for a note itself; `spent` is how many items of a note's content are shelved or dropped already;
-// `firing` and `goal` are the number and the goal of the firing that last took the item as body text.
-#[derive(Clone, Copy)]
-pub struct Row {
-    pub item: Item,
-    pub note: u32,
-    pub spent: u32,
-    pub place: Place,
+// The number and the goal of a firing.
+#[derive(Clone, Copy, PartialEq, Eq, Debug)]
+pub struct Stamp {
     pub firing: u32,
     pub goal: i64,
 }
 
+// A row of the item table. `note` is the number of the note whose content the item is; body text and a note itself
+// have none. `spent` is how many items of a note's content are shelved or dropped already, and `stamp` is that of
+// the firing that last took the item as body text.
+#[derive(Clone, Copy, PartialEq, Eq, Debug)]
+pub struct Row {
+    pub item: Item,
+    pub note: Option<u32>,
+    pub spent: u32,
+    pub place: Place,
+    pub stamp: Option<Stamp>,
+}
+
 // A run of one note's content on a shelf: the note's number, the first item's, and how many there are.
-#[derive(Clone, Copy)]
+#[derive(Clone, Copy, PartialEq, Eq, Debug, Default)]
 pub struct Piece {
     pub note: u32,
     pub first: u32,
     pub count: u32,
 }
 
-#[derive(Clone, Copy)]
+#[derive(Clone, Copy, PartialEq, Eq, Debug)]
 pub struct Settings {
     pub size: u32,
     pub depth: u32,
     pub top: u32,
 }
 
-// A class of notes; one that is not declared takes no note.
-#[derive(Clone, Copy)]
+// What is declared of a class of notes. Where there is none, the class takes no note.
+#[derive(Clone, Copy, PartialEq, Eq, Debug, Default)]
 pub struct Class {
-    pub declared: bool,
     pub floating: u32,
     pub limit: u32,
     pub skip: u32,
@@ -145,8 +151,8 @@ impl Item {
 }
 
 impl Row {
-    // The row of an item that is fed: `note` is the note whose content it is, or 0.
-    pub fn fed(item: Item, note: u32) -> Row
+    // The row of an item that is fed, with the number of the note whose content it is.
+    pub fn fed(item: Item, note: Option<u32>) -> Row
         ensures { result ≡ fed_row item note }
     {
         Row {
@@ -154,8 +160,7 @@ impl Row {
             note,
             spent: 0,
             place: Place::Owed,
-            firing: 0,
-            goal: 0,
+            stamp: None,
         }
     }
 }

@@ -1,23 +1,23 @@
 // What the library refuses, by the numbers of one table.
 ghost use Rattle.std.specs.Prelude.{◌≡◌};
-ghost use Rattle.items.specs.Refusals.{number_of};
+ghost use Rattle.items.specs.Refusals.{number_of, of_the_whole};
 
 #[derive(Clone, Copy, PartialEq, Eq, Debug)]
 pub enum Cause {
     // a setting, a class value or a table's length is outside its limits
-    Limits,
+    Limits = 1,
     // feed or close on a closed book
-    Closed,
+    Closed = 2,
     // a note has no content
-    NoContent,
+    NoContent = 3,
     // a note's class is not declared
-    Undeclared,
+    Undeclared = 4,
     // a note's content holds a note
-    Nested,
+    Nested = 5,
     // an item's value is outside its limits
-    Value,
+    Value = 6,
     // more items and notes than rows
-    Full,
+    Full = 7,
 }
 
 // `offset` is 0 for the item or the note as a whole, and k for the k-th item of its content.
@@ -27,18 +27,20 @@ pub struct Refusal {
     pub offset: usize,
 }
 
-impl Cause {
-    pub fn number(self) -> u32
-        ensures { result ≡ number_of self }
-    {
-        match self {
-            Cause::Limits => 1,
-            Cause::Closed => 2,
-            Cause::NoContent => 3,
-            Cause::Undeclared => 4,
-            Cause::Nested => 5,
-            Cause::Value => 6,
-            Cause::Full => 7,
-        }
+// A cause's number in the table of refusals.
+impl From<Cause> for u32 {
+    ghost from_gives = { λ cause n. n ≡ number_of cause };
+
+    fn from(cause: Cause) -> u32 {
+        cause as u32
+    }
+}
+
+// The refusal of an item, a note or a call as a whole.
+impl From<Cause> for Refusal {
+    ghost from_gives = { λ cause refusal. refusal ≡ of_the_whole cause };
+
+    fn from(cause: Cause) -> Refusal {
+        Refusal { cause, offset: 0 }
     }
 }

@@ -2,7 +2,7 @@
 // rows of the item table alike.
 ghost use Rattle.std.specs.Prelude.{◌≡◌, Bool, not, map};
 ghost use Rattle.items.specs.declared.Item.{Item};
-ghost use Rattle.items.specs.Items.{is_note, is_discardable, within_limits, items_of};
+ghost use Rattle.items.specs.Items.{is_note, is_discardable, within_limits};
 ghost use Rattle.items.specs.Refusals.{refused_after, content_refusal};
 ghost use Rattle.std.specs.List.{prefix_len};
 
@@ -33,7 +33,7 @@ impl Itemed for Row {
     }
 }
 
-// A test on items.
+// A test on items: a trait and not a closure, since clauses speak of what the test holds of.
 pub trait Test {
     ghost holds: { Item → Bool };
 
@@ -71,20 +71,14 @@ impl Test for WithinLimits {
     }
 }
 
-pub fn leading_of<T: Test, R: Itemed>(test: &T, rows: &[R]) -> usize
+// How many rows at the front pass a test.
+pub fn leading<T: Test, R: Itemed>(test: &T, rows: &[R]) -> usize
     ensures { result ≡ prefix_len T.Test.holds (map R.Itemed.item_in rows.now) }
 {
-    let mut n = 0;
-    while n < rows.len() && test.passes(rows[n].item()) {
-        n += 1;
-    }
-    n
-}
-
-pub fn leading<T: Test>(test: &T, rows: &[Row]) -> usize
-    ensures { result ≡ prefix_len T.Test.holds (items_of rows.now) }
-{
-    leading_of(test, rows)
+    rows.iter()
+        .map(|row| row.item())
+        .take_while(|item| test.passes(*item))
+        .count()
 }
 
 // A refusal at the entry after the first `passed`, if there is one; else what is refused otherwise.
@@ -106,16 +100,11 @@ fn refused_after<R: Itemed>(
     }
 }
 
-// What is refused of a note's content, if anything: a note in it, and then a value outside its limits.
-pub fn refusal_of<R: Itemed>(rows: &[R]) -> Option<Refusal>
+// What is refused of a note's content, if anything: a note in it, and then a value outside its limits. An Option and no
+// Result: it is asked what would be refused, and nothing is tried.
+pub fn content_refusal<R: Itemed>(rows: &[R]) -> Option<Refusal>
     ensures { result ≡ content_refusal (map R.Itemed.item_in rows.now) }
 {
-    let value = refused_after(Cause::Value, leading_of(&WithinLimits, rows), rows, None);
-    refused_after(Cause::Nested, leading_of(&NoNote, rows), rows, value)
-}
-
-pub fn content_refusal(rows: &[Row]) -> Option<Refusal>
-    ensures { result ≡ content_refusal (items_of rows.now) }
-{
-    refusal_of(rows)
+    let value = refused_after(Cause::Value, leading(&WithinLimits, rows), rows, None);
+    refused_after(Cause::Nested, leading(&NoNote, rows), rows, value)
 }

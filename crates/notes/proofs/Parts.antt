@@ -28,7 +28,7 @@ span_append a (suc m) n =
     rw (e, f) (ap (λ xs. a ∷ xs) (span_append (suc a) m n))
 
 module _ (items : List Item) (d : ℕ) where
-  fair : (first : ℕ) (w : ℤ) (p : Part) → first ≤ length items → Some p ≡ part_from items (record { height = w; depth = d }) first → Fair items first p
+  fair : (first : ℕ) (w : ℤ) (p : Part) → first ≤ length items → Some p ≡ part_from items w d first → Fair items first p
   fair first w p l e = go (break_of (drop first items) w d) refl e
     where
       go : (o : Option NoteBreak) → break_of (drop first items) w d ≡ o → Some p ≡ option_map (part_at items first) o → Fair items first p
@@ -46,9 +46,9 @@ module _ (items : List Item) (d : ℕ) where
   module _ (P : ℕ → List Part → Type 0) (none : (first : ℕ) → P first []) (more : (first : ℕ) (p : Part) (ps : List Part) → Fair items first p → P (end_of p) ps → P first (p ∷ ps)) where
     parts_all : (first : ℕ) (ws : List ℤ) → first ≤ length items → P first (parts_from items d first ws)
     parts_all first [] l = none first
-    parts_all first (w ∷ ws) l = go (ltb first (length items)) (part_from items (record { height = w; depth = d }) first) refl (λ p m. parts_all (end_of p) ws m)
+    parts_all first (w ∷ ws) l = go (ltb first (length items)) (part_from items w d first) refl (λ p m. parts_all (end_of p) ws m)
       where
-        go : (t : Bool) (o : Option Part) → part_from items (record { height = w; depth = d }) first ≡ o → ((p : Part) → end_of p ≤ length items → P (end_of p) (parts_from items d (end_of p) ws)) →
+        go : (t : Bool) (o : Option Part) → part_from items w d first ≡ o → ((p : Part) → end_of p ≤ length items → P (end_of p) (parts_from items d (end_of p) ws)) →
             P first (cond t (elim o as (λ _. List Part) [ None ↦ [] | Some p ↦ p ∷ parts_from items d (end_of p) ws ]) [])
         go false o e h = none first
         go true None e h = none first

@@ -19,7 +19,7 @@ rest_after_push first [] p = refl
 rest_after_push first (q ∷ ps) p = rest_after_push (end_of q) ps p
 
 module _ (items : List Item) (d first : ℕ) where
-  parts_more : (w : ℤ) (ws : List ℤ) (p : Part) → first < length items → Some p ≡ part_from items (record { height = w; depth = d }) first → parts_from items d first (w ∷ ws) ≡ p ∷ parts_from items d (end_of p) ws
+  parts_more : (w : ℤ) (ws : List ℤ) (p : Part) → first < length items → Some p ≡ part_from items w d first → parts_from items d first (w ∷ ws) ≡ p ∷ parts_from items d (end_of p) ws
   parts_more w ws p l e =
       let t : ltb first (length items) ≡ true = lt-ltb first (length items) l in
       rw (t, sym e)
@@ -30,7 +30,7 @@ module _ (items : List Item) (d first : ℕ) where
   parts_over (w ∷ ws) (inr e) = absurd (omega arith)
 
 module _ (items : List Item) (ws : List ℤ) (d : ℕ) (before after : List Part) (s : Split) (h : Splitting items ws d before after s) (long : length after ≡ length before) (room : length ws ≤ length before) where
-  pub splitting_more : (p : Part) → s.count < length ws → s.rest < length items → end_of p ≤ length items → Some p ≡ part_from items (record { height = get_or ws s.count (pos 0); depth = d }) s.rest →
+  pub splitting_more : (p : Part) → s.count < length ws → s.rest < length items → end_of p ≤ length items → Some p ≡ part_from items (get_or ws s.count (pos 0)) d s.rest →
       Splitting items ws d before (set after s.count p) (record { count = s.count + 1; rest = end_of p })
   splitting_more p l m f e =
       let n = s.count in

@@ -13,7 +13,7 @@ use Rattle.cost.specs.Cost.{forced, forbidden}
 use Rattle.cost.specs.Sums.{Roomy, none, weighed}
 use Rattle.cost.specs.Least.{least}
 use Rattle.cost.proofs.Bounds.{Bounded, bounded_none, bounded_weighed, bounded_roomy}
-use Rattle.notes.specs.declared.Column.{Column}
+use Rattle.notes.specs.declared.column.Column.{Column}
 use Rattle.notes.specs.declared.NoteBreak.{NoteBreak}
 use Rattle.notes.specs.Break.{Within, last_is, first_is, free, unless_forbidden, note_penalty, sums_of, break_with, break_after, candidates, ends, best_of, break_of}
 use Rattle.notes.specs.Walk.{Summed, Walked}
@@ -52,16 +52,16 @@ module _ (w : ℤ) (d : ℕ) (before : List Item) (best : Option NoteBreak) wher
   pub passed : (x : Item) (after : List Item) → note_penalty before (x ∷ after) ≡ None → best_of best (candidates w d before (x ∷ after)) ≡ best_of best (candidates w d (before ++ x ∷ []) after)
   passed x after e = rw e refl
 
-  module _ (x : Item) (after : List Item) (p : ℤ) (now : NoteBreak) (e : note_penalty before (x ∷ after) ≡ Some p) (is : Some now ≡ least price best (break_after w d before p)) where
-    pub looked : ends (break_after w d before p) ≡ false → best_of best (candidates w d before (x ∷ after)) ≡ best_of (Some now) (candidates w d (before ++ x ∷ []) after)
+  module _ (x : Item) (after : List Item) (p : ℤ) (now : Option NoteBreak) (e : note_penalty before (x ∷ after) ≡ Some p) (is : now ≡ least price best (break_after w d before p)) where
+    pub looked : ends (break_after w d before p) ≡ false → best_of best (candidates w d before (x ∷ after)) ≡ best_of now (candidates w d (before ++ x ∷ []) after)
     looked s =
         let rest = candidates w d (before ++ x ∷ []) after in
         rw e (more best (break_after w d before p) rest s ∙ ap (λ o. best_of o rest) (sym is))
 
-    pub stopped : ends (break_after w d before p) ≡ true → Some now ≡ best_of best (candidates w d before (x ∷ after))
+    pub stopped : ends (break_after w d before p) ≡ true → now ≡ best_of best (candidates w d before (x ∷ after))
     stopped s = rw e (is ∙ sym (last best (break_after w d before p) (candidates w d (before ++ x ∷ []) after) s))
 
-  pub ended : (now : NoteBreak) → Some now ≡ least price best (break_after w d before forced) → Some now ≡ best_of best (candidates w d before [])
+  pub ended : (now : Option NoteBreak) → now ≡ least price best (break_after w d before forced) → now ≡ best_of best (candidates w d before [])
   ended now is = is ∙ sym (last best (break_after w d before forced) [] (or_right (le_z (pos most) (break_after w d before forced).cost) true refl))
 
 -- the sums of the items before a place are small
@@ -82,10 +82,10 @@ module _ (items : List Item) (c : Column) (k : ℕ) (l : k ≤ length items) whe
   here_is s p e = ap (λ t. break_with c.height k t p) e ∙ ap (λ n. break_with c.height n (sums_of c.depth (take k items)) p) (sym (length-take-le k items l))
 
   module _ (s : Sums) (best : Option NoteBreak) (e : Summed items c k s) (w : Walked items c k best) where
-    least_is : (p : ℤ) (now : NoteBreak) → Some now ≡ least price best (break_with c.height k s p) → Some now ≡ least price best (break_after c.height c.depth (take k items) p)
+    least_is : (p : ℤ) (now : Option NoteBreak) → now ≡ least price best (break_with c.height k s p) → now ≡ least price best (break_after c.height c.depth (take k items) p)
     least_is p now is = is ∙ ap (least price best) (here_is s p e)
 
-    pub walk_ends : (now : NoteBreak) → length items ≤ k → Some now ≡ least price best (break_with c.height k s forced) → Some now ≡ break_of items c.height c.depth
+    pub walk_ends : (now : Option NoteBreak) → length items ≤ k → now ≡ least price best (break_with c.height k s forced) → now ≡ break_of items c.height c.depth
     walk_ends now m is =
         ended c.height c.depth (take k items) best now (least_is forced now is) ∙
         ap (λ a. best_of best (candidates c.height c.depth (take k items) a)) (sym (drop_all k items m)) ∙ sym w
@@ -107,12 +107,12 @@ module _ (items : List Item) (c : Column) (k : ℕ) (l : k ≤ length items) whe
       pub walk_passes : None ≡ note_penalty (take k items) (drop k items) → Walked items c (k + 1) best
       walk_passes q = on best (passed c.height c.depth (take k items) best x (drop (k + 1) items) (at_x None q))
 
-      module _ (p : ℤ) (now : NoteBreak) (q : Some p ≡ note_penalty (take k items) (drop k items)) (is : Some now ≡ least price best (break_with c.height k s p)) where
-        pub walk_looks : false ≡ ends (break_with c.height k s p) → Walked items c (k + 1) (Some now)
+      module _ (p : ℤ) (now : Option NoteBreak) (q : Some p ≡ note_penalty (take k items) (drop k items)) (is : now ≡ least price best (break_with c.height k s p)) where
+        pub walk_looks : false ≡ ends (break_with c.height k s p) → Walked items c (k + 1) now
         walk_looks t =
-            on (Some now)
+            on now
             (looked c.height c.depth (take k items) best x (drop (k + 1) items) p now (at_x (Some p) q) (least_is p now is) (sym (t ∙ ap ends (here_is s p e))))
 
-        pub walk_stops : true ≡ ends (break_with c.height k s p) → Some now ≡ break_of items c.height c.depth
+        pub walk_stops : true ≡ ends (break_with c.height k s p) → now ≡ break_of items c.height c.depth
         walk_stops t =
             stopped c.height c.depth (take k items) best x (drop (k + 1) items) p now (at_x (Some p) q) (least_is p now is) (sym (t ∙ ap ends (here_is s p e))) ∙ sym left_is

@@ -8,7 +8,6 @@ use Rattle.items.specs.declared.refusals.Cause.TheVariants.{Limits, NoContent}
 use Rattle.items.specs.Lists.{span}
 use Rattle.items.specs.Items.{most, is_discardable}
 use Rattle.items.specs.Refusals.{content_refusal}
-use Rattle.notes.specs.declared.Column.{Column}
 use Rattle.notes.specs.declared.NoteBreak.{NoteBreak}
 use Rattle.notes.specs.declared.split.Part.{Part}
 use Rattle.notes.specs.declared.split.Split.{Split}
@@ -29,15 +28,15 @@ abbrev pub part_at : List Item → ℕ → NoteBreak → Part
 part_at items first b = record { first = first; cut = b; dropped = prefix_len is_discardable (drop (first + b.place) items) }
 
 -- the part that the best break splits off
-abbrev pub part_from : List Item → Column → ℕ → Option Part
-part_from items c first = option_map (part_at items first) (break_of (drop first items) c.height c.depth)
+abbrev pub part_from : List Item → ℤ → ℕ → ℕ → Option Part
+part_from items w d first = option_map (part_at items first) (break_of (drop first items) w d)
 
 -- the parts for a list of wanted heights, one after another while items are left
 abbrev pub parts_from : List Item → ℕ → ℕ → List ℤ → List Part
 parts_from items d first [] = []
 parts_from items d first (w ∷ ws) =
     cond (nat_lt first (length items))
-    (elim (part_from items (record { height = w; depth = d }) first) as (λ _. List Part) [ None ↦ [] | Some p ↦ p ∷ parts_from items d (end_of p) ws ])
+    (elim (part_from items w d first) as (λ _. List Part) [ None ↦ [] | Some p ↦ p ∷ parts_from items d (end_of p) ws ])
     []
 
 -- where what no part has begins

@@ -1,13 +1,13 @@
 -- A walk over a note's content that looks for its best break.
 use Rattle.std.specs.Prelude.{◌≡◌, ℕ, ◌+◌, ◌≤◌, List, length, take, drop, Some, Option}
+use Rattle.std.specs.declared.ops.ControlFlow.{ControlFlow}
+use Rattle.std.specs.declared.ops.ControlFlow.TheVariants.{Continue, Break}
 use Rattle.items.specs.declared.Item.{Item}
 use Rattle.items.specs.declared.Row.{Row}
 use Rattle.items.specs.Items.{items_of}
 use Rattle.cost.specs.declared.sums.Sums.{Sums}
-use Rattle.notes.specs.declared.Column.{Column}
+use Rattle.notes.specs.declared.column.Column.{Column}
 use Rattle.notes.specs.declared.NoteBreak.{NoteBreak}
-use Rattle.notes.specs.declared.Looked.{Looked}
-use Rattle.notes.specs.declared.Looked.TheVariants.{Over, Open}
 use Rattle.notes.specs.Break.{sums_of, candidates, best_of, break_of}
 
 -- the sums of the items before a place
@@ -24,6 +24,6 @@ pub record Found (rows : List Row) (c : Column) (b : NoteBreak) : Type 0 where
   pub place : b.place ≤ length rows
 
 -- what a look at one place leaves: the note's break, or the walk one place on
-abbrev pub LookedAt : List Row → Column → ℕ → Looked → Type 0
-LookedAt rows c k (Over b) = Found rows c b
-LookedAt rows c k (Open best) = Walked (items_of rows) c (k + 1) best
+abbrev pub LookedAt : List Row → Column → ℕ → ControlFlow NoteBreak (Option NoteBreak) → Type 0
+LookedAt rows c k (Break b) = Found rows c b
+LookedAt rows c k (Continue best) = Walked (items_of rows) c (k + 1) best

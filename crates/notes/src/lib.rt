@@ -1,31 +1,28 @@
 // Where a note breaks.
 #![tactic(auto)]
 
-ghost use Rattle.std.specs.Prelude.{◌≡◌, ◌+◌, ◌^◌, ◌<◌, ◌≤◌, length, take, drop, pos, ◌+ℤ◌, ◌<ℤ◌, Some, unsigned_abs};
-ghost use Rattle.items.specs.Items.{is_box, is_glue, items_of};
+ghost use Rattle.std.specs.Prelude.{◌≡◌, ◌+◌, ◌^◌, ◌<◌, ◌≤◌, length, take, drop, pos, ◌+ℤ◌, ◌<ℤ◌, ◌≤ℤ◌, Some, unsigned_abs};
+ghost use Rattle.items.specs.Items.{most, is_box, is_glue, items_of};
 ghost use Rattle.cost.specs.Cost.{forbidden};
 ghost use Rattle.cost.specs.Least.{least};
-ghost use Rattle.notes.specs.Break.{Within, last_is, first_is, penalty_before, note_penalty, break_with, ends, break_of};
+ghost use Rattle.notes.specs.Break.{last_is, first_is, penalty_before, note_penalty, break_with, ends, break_of};
 ghost use Rattle.notes.specs.Walk.{Summed, Walked, Found, LookedAt};
 
+pub mod column;
+pub mod content;
 pub mod split;
 
-use cost::least::{Costed, least};
+use column::Column;
+use content::Content;
+use cost::break_cost;
+use cost::least::{Costed, least, weigh};
 use cost::sums::Sums;
-use cost::{break_cost, stops};
-use items::{FORBIDDEN, Item, Row};
-
-// What a note's content is to fill: a wanted height, which may be negative, and the most that its last item may
-// hang below it.
-#[derive(Clone, Copy)]
-pub struct Column {
-    pub height: i64,
-    pub depth: u32,
-}
+use items::{FORBIDDEN, Item};
+use std::ops::ControlFlow;
 
 // A break of a note's content: how many items stand before it, how high they are, the penalty there and
 // what the break costs.
-#[derive(Clone, Copy)]
+#[derive(Clone, Copy, PartialEq, Eq, Debug, Default)]
 pub struct NoteBreak {
     pub place: usize,
     pub height: i64,
@@ -50,16 +47,17 @@ fn height_of(before: &Sums) -> i64
 }
 
 impl NoteBreak {
-    fn at(place: usize, before: &Sums, height: i64, penalty: i32) -> NoteBreak
-        requires height { unsigned_abs height < 2 ^ 62 }
+    fn at(place: usize, before: &Sums, column: Column, penalty: i32) -> NoteBreak
         requires total { unsigned_abs before.now.total < 2 ^ 62 }
-        ensures { result ≡ break_with height place before.now penalty }
+        requires allowed { penalty <ℤ forbidden }
+        ensures break_there { result ≡ break_with column.height place before.now penalty }
+        ensures no_dearer { result.cost ≤ℤ pos most }
     {
         NoteBreak {
             place,
             height: height_of(before),
             penalty,
-            cost: break_cost(before.fit(height), penalty, 0),
+            cost: break_cost(before.fit(column.height), penalty, 0),
         }
     }
 }
@@ -76,129 +74,93 @@ pub fn penalty_before(after_box: bool, item: Item, before_glue: bool) -> Option<
     }
 }
 
-fn after_box(rows: &[Row], k: usize) -> bool
-    requires within { k ≤ length rows.now }
-    requires short { length rows.now ≤ 16384 }
-    ensures { result ≡ last_is is_box (take k (items_of rows.now)) }
+fn after_box(content: Content, place: usize) -> bool
+    requires { place ≤ length content.rows.now }
+    ensures { result ≡ last_is is_box (take place (items_of content.entry.rows.now)) }
 {
-    if k == 0 {
-        return false;
-    }
-    rows[k - 1].item.is_box()
+    place > 0 && content.rows[place - 1].item.is_box()
 }
 
-fn before_glue(rows: &[Row], k: usize) -> bool
-    requires short { length rows.now ≤ 16384 }
-    ensures { result ≡ first_is is_glue (drop k (items_of rows.now)) }
+fn before_glue(content: Content, place: usize) -> bool
+    ensures { result ≡ first_is is_glue (drop place (items_of content.entry.rows.now)) }
 {
-    k < rows.len() && rows[k].item.is_glue()
+    place < content.rows.len() && content.rows[place].item.is_glue()
 }
 
-fn penalty_at(rows: &[Row], k: usize) -> Option<i32>
-    requires within { k < length rows.now }
-    requires short { length rows.now ≤ 16384 }
-    ensures { result ≡ note_penalty (take k (items_of rows.now)) (drop k (items_of rows.now)) }
+// The penalty of the place before an item, if a break may be there.
+fn penalty_at(content: Content, place: usize) -> Option<i32>
+    requires { place < length content.rows.now }
+    ensures { result ≡ note_penalty (take place (items_of content.entry.rows.now)) (drop place (items_of content.entry.rows.now)) }
 {
-    penalty_before(after_box(rows, k), rows[k].item, before_glue(rows, k + 1))
+    penalty_before(
+        after_box(content, place),
+        content.rows[place].item,
+        before_glue(content, place + 1),
+    )
 }
 
-// Adds the item at `k` to the sums of those before it.
-fn pass(rows: &[Row], k: usize, sums: &mut Sums, column: Column)
-    requires content { Within (items_of rows.now) }
-    requires short { length rows.now ≤ 16384 }
-    requires place { k < length rows.now }
-    requires summed { Summed (items_of rows.now) column k sums.old }
-    ensures { Summed (items_of rows.now) column (k + 1) sums.new }
+// Adds the item at a place to the sums of those before it. What is searched, what for and where stay apart: a struct of
+// them would be taken apart in each function.
+fn pass(content: Content, place: usize, sums: &mut Sums, column: Column)
+    requires place { place < length content.rows.now }
+    requires summed { Summed (items_of content.rows.now) column place sums.old }
+    ensures { Summed (items_of content.entry.rows.now) column (place + 1) sums.new }
 {
-    sums.add(rows[k].item, column.depth);
+    sums.add(content.rows[place].item, column.depth);
 }
 
-// The best of the candidates so far and one more, and whether that one ends the search.
-#[derive(Clone, Copy)]
-struct Weighed {
-    best: NoteBreak,
-    ends: bool,
-}
-
-fn weigh(
-    best: Option<NoteBreak>,
+// Looks at the place before an item, where `before` are the sums of the items before it: `Break` with the note's
+// break, or the best so far.
+fn look(
+    content: Content,
     place: usize,
     before: &Sums,
+    best: Option<NoteBreak>,
     column: Column,
-    penalty: i32,
-) -> Weighed
-    requires height { unsigned_abs column.height < 2 ^ 62 }
-    requires total { unsigned_abs before.now.total < 2 ^ 62 }
-    requires allowed { penalty <ℤ forbidden }
-    ensures best { Some result.best ≡ least (λ b. b.cost) best (break_with column.height place before.now penalty) }
-    ensures ends { result.ends ≡ ends (break_with column.height place before.now penalty) }
+) -> ControlFlow<NoteBreak, Option<NoteBreak>>
+    requires place { place < length content.rows.now }
+    requires summed { Summed (items_of content.rows.now) column place before.now }
+    requires walked { Walked (items_of content.rows.now) column place best }
+    ensures { LookedAt content.entry.rows.now column place result }
 {
-    let here = NoteBreak::at(place, before, column.height, penalty);
-    Weighed {
-        best: least(best, here),
-        ends: stops(here.cost, penalty),
-    }
-}
-
-// What a look at one place leaves: the note's break, or the best so far.
-#[derive(Clone, Copy)]
-enum Looked {
-    Over(NoteBreak),
-    Open(Option<NoteBreak>),
-}
-
-// Looks at the place `k`, where `before` are the sums of the items before it.
-fn look(rows: &[Row], k: usize, before: &Sums, best: Option<NoteBreak>, column: Column) -> Looked
-    requires content { Within (items_of rows.now) }
-    requires short { length rows.now ≤ 16384 }
-    requires height { unsigned_abs column.height < 2 ^ 62 }
-    requires place { k < length rows.now }
-    requires summed { Summed (items_of rows.now) column k before.now }
-    requires walked { Walked (items_of rows.now) column k best }
-    ensures { LookedAt rows.now column k result }
-{
-    match penalty_at(rows, k) {
-        Some(penalty) => {
-            let weighed = weigh(best, k, before, column, penalty);
-            if weighed.ends {
-                Looked::Over(weighed.best)
-            } else {
-                Looked::Open(Some(weighed.best))
-            }
-        }
-        None => Looked::Open(best),
+    match penalty_at(content, place) {
+        Some(penalty) => weigh(best, NoteBreak::at(place, before, column, penalty), penalty),
+        None => ControlFlow::Continue(best),
     }
 }
 
 // Looks at the end, which ends the search.
-fn look_at_end(rows: &[Row], before: &Sums, best: Option<NoteBreak>, column: Column) -> NoteBreak
-    requires content { Within (items_of rows.now) }
-    requires short { length rows.now ≤ 16384 }
-    requires height { unsigned_abs column.height < 2 ^ 62 }
-    requires summed { Summed (items_of rows.now) column (length rows.now) before.now }
-    requires walked { Walked (items_of rows.now) column (length rows.now) best }
-    ensures { Found rows.now column result }
+fn look_at_end(
+    content: Content,
+    before: &Sums,
+    best: Option<NoteBreak>,
+    column: Column,
+) -> NoteBreak
+    requires summed { Summed (items_of content.rows.now) column (length content.rows.now) before.now }
+    requires walked { Walked (items_of content.rows.now) column (length content.rows.now) best }
+    ensures { Found content.entry.rows.now column result }
 {
-    weigh(best, rows.len(), before, column, -FORBIDDEN).best
+    least(
+        best,
+        NoteBreak::at(content.rows.len(), before, column, -FORBIDDEN),
+    )
 }
 
 // The best break of a note's content.
-pub fn break_note(rows: &[Row], column: Column) -> NoteBreak
-    requires content { Within (items_of rows.now) }
-    requires short { length rows.now ≤ 16384 }
-    requires height { unsigned_abs column.height < 2 ^ 62 }
-    ensures best { Some result ≡ break_of (items_of rows.now) column.height column.depth }
-    ensures place { result.place ≤ length rows.now }
+pub fn break_note(content: Content, column: Column) -> NoteBreak
+    ensures best { Some result ≡ break_of (items_of content.entry.rows.now) column.height column.depth }
+    ensures place { result.place ≤ length content.entry.rows.now }
 {
     let mut sums = Sums::new();
     let mut best = None;
-    for k in 0..rows.len() {
+    // By place: whether a break may be there depends on the items before and after it.
+    for place in 0..content.rows.len() {
         let before = sums;
-        pass(rows, k, &mut sums, column);
-        match look(rows, k, &before, best, column) {
-            Looked::Over(found) => return found,
-            Looked::Open(so_far) => best = so_far,
+        pass(content, place, &mut sums, column);
+        match look(content, place, &before, best, column) {
+            ControlFlow::Break(found) => return found,
+            ControlFlow::Continue(so_far) => best = so_far,
         }
     }
-    look_at_end(rows, &sums, best, column)
+    look_at_end(content, &sums, best, column)
 }

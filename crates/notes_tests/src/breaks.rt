@@ -1,6 +1,7 @@
 // Where a note breaks.
 use crate::tables::*;
 use cost::badness;
+use samples::{bx, glue, kern, penalty};
 use std::test::Fail;
 
 #[test]

@@ -2,7 +2,8 @@
 use crate::tables::*;
 use items::Item;
 use items::refusals::Refusal;
-use notes::split::split_note;
+use notes::split::{Split, split_note};
+use samples::{bx, glue, kern, penalty};
 use std::process::Abort;
 use std::test::Fail;
 
@@ -29,12 +30,10 @@ fn two_columns_and_a_rest(rt: HostRuntime) -> Result<(), Fail> {
     ];
     let rows = rows_of(&items);
     let mut parts = [unwritten(); 3];
-    let split = match split_note(&rows[0..7], &[10, 10], 0, &mut parts) {
-        Ok(split) => split,
-        Err(_) => return Err(Fail::new("the note is refused")),
-    };
-    assert_eq!(rt; split.count, 2);
-    assert_eq!(rt; split.rest, 6);
+    let split = split_note(&rows[0..7], &[10, 10], 0, &mut parts).map_err(|_| Fail::new(
+        "the note is refused",
+    ))?;
+    assert_eq!(rt; split, Split { count: 2, rest: 6 });
     assert_eq!(rt;
         (parts[0].first, parts[0].cut.place, parts[0].dropped),
         (0, 1, 3)
@@ -44,8 +43,8 @@ fn two_columns_and_a_rest(rt: HostRuntime) -> Result<(), Fail> {
         (4, 1, 1)
     );
     assert_eq!(rt;
-        parts[2].first,
-        77,
+        parts[2],
+        unwritten(),
         "the table behind the parts is as it was"
     );
     Ok(())
@@ -55,10 +54,14 @@ fn refusal(rt: &impl Abort, items: &[Item], heights: &[i32], depth: u32) -> Resu
     assert!(rt; items.len() <= 8);
     let rows = rows_of(items);
     let mut parts = [unwritten(); 2];
-    match split_note(&rows[0..items.len()], heights, depth, &mut parts) {
+    match split_note(&rows[..items.len()], heights, depth, &mut parts) {
         Ok(_) => Err(Fail::new("the note is not refused")),
         Err(refusal) => {
-            assert_eq!(rt; parts[0].first, 77, "a refusal leaves the table as it was");
+            assert_eq!(rt;
+                parts,
+                [unwritten(); 2],
+                "a refusal leaves the table as it was"
+            );
             Ok(refusal)
         }
     }
@@ -73,8 +76,7 @@ fn check_refusal(
     what: &str,
 ) -> Result<(), Fail> {
     let refusal = refusal(rt, items, heights, depth)?;
-    assert_eq!(rt; refusal.cause.number(), want.0, "{what}");
-    assert_eq!(rt; refusal.offset, want.1, "{what}");
+    assert_eq!(rt; (u32::from(refusal.cause), refusal.offset), want, "{what}");
     Ok(())
 }
 

@@ -2,17 +2,16 @@
 use items::{Item, Row};
 use notes::NoteBreak;
 use notes::split::{Part, split_note};
+use std::array;
 use std::process::Abort;
 use std::test::Fail;
 
+// The items' rows, and rows of nothing after them.
 pub(crate) fn rows_of(items: &[Item]) -> [Row; 8] {
-    let mut rows = [Row::fed(Item::Penalty { value: 0 }, 1); 8];
-    for i in 0..8 {
-        if i < items.len() {
-            rows[i] = Row::fed(items[i], 1);
-        }
-    }
-    rows
+    array::from_fn(|i| Row::fed(
+        items.get(i).copied().unwrap_or(samples::penalty(0)),
+        Some(1),
+    ))
 }
 
 pub(crate) fn unwritten() -> Part {
@@ -29,7 +28,7 @@ pub(crate) fn unwritten() -> Part {
     }
 }
 
-// The one part of a note that is split to one height.
+// The one part of a note that is split to one height. Each test hands its own items, height and depth.
 pub(crate) fn first_part(
     rt: &impl Abort,
     items: &[Item],
@@ -39,10 +38,10 @@ pub(crate) fn first_part(
     assert!(rt; items.len() <= 8);
     let rows = rows_of(items);
     let mut parts = [unwritten(); 1];
-    match split_note(&rows[0..items.len()], &[height], depth, &mut parts) {
-        Ok(_) => Ok(parts[0]),
-        Err(_) => Err(Fail::new("the note is refused")),
-    }
+    split_note(&rows[..items.len()], &[height], depth, &mut parts).map_err(|_| Fail::new(
+        "the note is refused",
+    ))?;
+    Ok(parts[0])
 }
 
 // A break's place, height and cost.
@@ -54,29 +53,6 @@ pub(crate) fn check_break(
     want: (usize, i64, i64),
 ) -> Result<(), Fail> {
     let cut = first_part(rt, items, height, depth)?.cut;
-    assert_eq!(rt; cut.place, want.0, "the place");
-    assert_eq!(rt; cut.height, want.1, "the height");
-    assert_eq!(rt; cut.cost, want.2, "the cost");
+    assert_eq!(rt; (cut.place, cut.height, cut.cost), want);
     Ok(())
-}
-
-pub(crate) fn bx(height: u32, depth: u32) -> Item {
-    Item::Box { height, depth }
-}
-
-pub(crate) fn glue(width: i32, stretch: u32, order: u8, shrink: u32) -> Item {
-    Item::Glue {
-        width,
-        stretch,
-        order,
-        shrink,
-    }
-}
-
-pub(crate) fn kern(width: i32) -> Item {
-    Item::Kern { width }
-}
-
-pub(crate) fn penalty(value: i32) -> Item {
-    Item::Penalty { value }
 }

@@ -4,6 +4,7 @@
 mod galley;
 mod show;
 
+use book::Tables;
 use book::making::eight;
 use boxlist::faults::{Fault, LONGEST, length_fault};
 use calls::Page;
@@ -13,27 +14,22 @@ use std::io;
 use std::io::Read;
 
 // One byte more than the longest text shows that a text is too long.
-const BUFFER: usize = 8_193;
+const BUFFER: usize = LONGEST + 1;
 
 // The most items and notes that a box list may have, and so the most columns of a note.
 pub const MOST: usize = 256;
 
-// Reads the standard input to its end, or as much as fits.
-fn read_text(rt: &HostRuntime, text: &mut [u8]) -> io::Result<usize> {
-    let mut stdin = rt.stdin();
-    let mut len = 0usize;
-    for _ in 0..u64::MAX {
-        let room = text.len();
-        if len >= room {
-            break;
-        }
-        let more = stdin.read(&mut text[len..])?;
-        if more == 0 || more > room - len {
+// Reads to the input's end, which a read of no bytes tells, or as much as fits.
+fn read_text<'a>(input: &mut impl Read, buffer: &'a mut [u8]) -> io::Result<&'a [u8]> {
+    let mut len = 0;
+    while len < buffer.len() {
+        let more = input.read(&mut buffer[len..])?;
+        if more == 0 {
             break;
         }
         len += more;
     }
-    Ok(len)
+    Ok(&buffer[..len])
 }
 
 // Feeds a text to a book over the rows.
@@ -43,20 +39,8 @@ fn fill(
     content: &mut [Item],
     rows: &mut [Row; MOST],
 ) -> Result<(), Fault> {
-    let piece = Piece {
-        note: 0,
-        first: 0,
-        count: 0,
-    };
-    let mut a = [piece; MOST];
-    let mut b = [piece; MOST];
-    let mut c = [piece; MOST];
-    let mut d = [piece; MOST];
-    let mut e = [piece; MOST];
-    let mut f = [piece; MOST];
-    let mut g = [piece; MOST];
-    let mut h = [piece; MOST];
-    let mut shelves = eight(
+    let [mut a, mut b, mut c, mut d, mut e, mut f, mut g, mut h] = [[Piece::default(); MOST]; 8];
+    let shelves = eight(
         &mut a[..],
         &mut b[..],
         &mut c[..],
@@ -66,41 +50,29 @@ fn fill(
         &mut g[..],
         &mut h[..],
     );
-    let mut contributions = [0u32; MOST];
-    let mut page = [0u32; MOST];
-    let mut waiting = [0u32; MOST];
-    let mut shipped = [0u32; MOST];
-    let mut pages = [Page {
-        from: 0,
-        penalty: 0,
-    }; MOST];
-    feed_all(
-        text,
-        head,
-        content,
+    let mut tables = Tables {
         rows,
-        &mut contributions,
-        &mut page,
-        &mut waiting,
-        &mut shipped,
-        &mut pages,
-        &mut shelves,
-    )
+        contributions: &mut [0; MOST],
+        page: &mut [0; MOST],
+        waiting: &mut [0; MOST],
+        shipped: &mut [0; MOST],
+        pages: &mut [Page::default(); MOST],
+    };
+    feed_all(text, head, content, &mut tables, &shelves)
 }
 
 fn main(rt: HostRuntime) -> io::Result<()> {
-    let mut buffer = [0u8; BUFFER];
-    let len = read_text(&rt, &mut buffer)?;
-    if let Some(fault) = length_fault(len) {
-        return show::fault(&rt, fault);
+    let mut buffer = [0; BUFFER];
+    let text = read_text(&mut rt.stdin(), &mut buffer)?;
+    if let Some(fault) = length_fault(text.len()) {
+        return println!(rt; "{fault}");
     }
-    let text = &buffer[0..len];
     let nothing = Item::Penalty { value: 0 };
     let mut content = [nothing; LONGEST];
-    let mut rows = [Row::fed(nothing, 0); MOST];
+    let mut rows = [Row::fed(nothing, None); MOST];
     let head = Head::of(text, &mut content);
     match fill(text, head, &mut content, &mut rows) {
         Ok(()) => show::notes(&rt, &head.classes, &rows),
-        Err(fault) => show::fault(&rt, fault),
+        Err(fault) => println!(rt; "{fault}"),
     }
 }

@@ -1,13 +1,11 @@
 // What is printed.
 use crate::MOST;
-use boxlist::faults::{Fault, Layer};
 use items::{Class, Item, Row};
-use notes::NoteBreak;
-use notes::split::{Part, Split, split_note};
+use notes::split::{Part, split_note};
 use std::{fmt, io};
 
 // Some items in a row, counted from 1.
-#[derive(Clone, Copy)]
+#[derive(Clone, Copy, PartialEq, Eq, Debug)]
 struct Run {
     first: usize,
     count: usize,
@@ -41,13 +39,9 @@ fn part(rt: &impl Print, column: usize, part: Part) -> io::Result<()> {
 }
 
 // The columns of one note.
-fn columns(rt: &impl Print, split: Split, parts: &[Part]) -> io::Result<()> {
-    let mut column = 0usize;
-    for one in parts {
-        if column < split.count {
-            column += 1;
-            part(rt, column, *one)?;
-        }
+fn columns(rt: &impl Print, parts: &[Part]) -> io::Result<()> {
+    for (i, one) in parts.iter().enumerate() {
+        part(rt, i + 1, *one)?;
     }
     Ok(())
 }
@@ -60,46 +54,29 @@ fn note(
     rules: Class,
     content: &[Row],
 ) -> io::Result<()> {
-    let nowhere = NoteBreak {
-        place: 0,
-        height: 0,
-        penalty: 0,
-        cost: 0,
-    };
-    let no_part = Part {
-        first: 0,
-        cut: nowhere,
-        dropped: 0,
-    };
-    let mut parts = [no_part; MOST];
+    let mut parts = [Part::default(); MOST];
     let height = rules.limit.min(items::MOST) as i32;
+    let split = split_note(content, &[height; MOST], rules.depth, &mut parts).map_err(|_| unfed())?;
     println!(rt; "note {number} of class {class}")?;
-    match split_note(content, &[height; MOST], rules.depth, &mut parts) {
-        Ok(split) => columns(rt, split, &parts),
-        Err(_) => Ok(()),
-    }
+    columns(rt, &parts[..split.count])
 }
 
-// Each note of the table, as long as its content is in the table.
-pub(crate) fn notes(rt: &impl Print, classes: &[Class; 8], rows: &[Row]) -> io::Result<()> {
-    for i in 0..rows.len() {
-        if let Item::Note { class, count } = rows[i].item {
-            let rest = &rows[i + 1..];
-            let count = count as usize;
-            let at = class as usize;
-            if count <= rest.len() && at < 8 {
-                note(rt, i + 1, class, classes[at], &rest[0..count])?;
-            }
+// What no feed leaves in the table.
+fn unfed() -> io::Error {
+    io::Error::other("a note in the table that no feed takes")
+}
+
+// Each note of the table.
+pub(crate) fn notes(rt: &impl Print, classes: &[Option<Class>; 8], rows: &[Row]) -> io::Result<()> {
+    for (i, row) in rows.iter().enumerate() {
+        if let Item::Note { class, count } = row.item {
+            let rules = classes.get(class as usize).copied().flatten();
+            let content = rows[i + 1..].get(..count as usize);
+            let (Some(rules), Some(content)) = (rules, content) else {
+                return Err(unfed());
+            };
+            note(rt, i + 1, class, rules, content)?;
         }
     }
     Ok(())
-}
-
-pub(crate) fn fault(rt: &impl Print, fault: Fault) -> io::Result<()> {
-    let line = fault.faulty_line();
-    let cause = fault.cause();
-    match fault.layer {
-        Layer::Text(_) => println!(rt; "FA {line} T {cause}"),
-        Layer::Galley(_) => println!(rt; "FA {line} G {cause}"),
-    }
 }

@@ -2,21 +2,15 @@
 use Rattle.std.proofs.Common.{◌≡◌, ℕ, Bool, true, false, cond, not, ◌&&◌, ◌||◌, List, [], ◌∷◌, ℤ, pos, ◌<ℤ◌, Some, None, sym, refl, arith}
 use borrow.Author.Differences.{ints}
 use Rattle.items.specs.declared.Item.{Item}
-use Rattle.items.specs.declared.Item.TheVariants.{Box, Glue}
+use Rattle.items.specs.declared.Item.TheVariants.{Glue}
 use Rattle.items.specs.Items.{is_box, is_glue, is_note}
 use Rattle.cost.specs.Cost.{forced, forbidden}
 use Rattle.notes.specs.Break.{last_is, first_is, free, penalty_before}
-use Rattle.notes.proofs.Walk.{note_allowed}
+use Rattle.notes.proofs.Places.{before_allowed}
 use Rattle.page.specs.declared.PageSoFar.{PageSoFar}
 use Rattle.page.specs.declared.breaks.Ahead.{Ahead}
-use Rattle.page.specs.Breaks.{empty, penalty_at, items_ahead}
-
--- every place between a box or nothing and glue or nothing is one of a note
-before_allowed : (a : Bool) (x : Item) (b : Bool) (p : ℤ) → penalty_before a x b ≡ Some p → p <ℤ forbidden
-before_allowed true x true p e = note_allowed (Box 0 0 ∷ []) (x ∷ Glue (pos 0) 0 0 0 ∷ []) p e
-before_allowed true x false p e = note_allowed (Box 0 0 ∷ []) (x ∷ []) p e
-before_allowed false x true p e = note_allowed [] (x ∷ Glue (pos 0) 0 0 0 ∷ []) p e
-before_allowed false x false p e = note_allowed [] (x ∷ []) p e
+use Rattle.page.specs.declared.breaks.Ahead.TheVariants.{Items, Waiting, End}
+use Rattle.page.specs.Breaks.{empty, penalty_at, items_ahead, closes}
 
 pub penalty_allowed : (closed : Bool) (m : PageSoFar) (page ahead : List Item) (p : ℤ) → Some p ≡ penalty_at closed m page ahead → p <ℤ forbidden
 penalty_allowed closed m page [] p e = go (closed && not (empty page)) (sym e)
@@ -32,11 +26,12 @@ penalty_allowed closed m page (x ∷ rest) p e = go m.boxes (sym e)
 
 -- what lies ahead of a list of items
 abbrev pub ahead_of : List Item → Bool → Ahead
-ahead_of [] closed = record { next = None; after = None; closed = closed }
-ahead_of (x ∷ []) closed = record { next = Some x; after = None; closed = closed }
-ahead_of (x ∷ y ∷ ys) closed = record { next = Some x; after = Some y; closed = closed }
+ahead_of [] closed = cond closed End Waiting
+ahead_of (x ∷ []) closed = Items x None
+ahead_of (x ∷ y ∷ ys) closed = Items x (Some y)
 
-pub penalty_ahead : (closed : Bool) (m : PageSoFar) (page items : List Item) → penalty_at closed m page items ≡ penalty_at closed m page (items_ahead (ahead_of items closed))
-penalty_ahead closed m page [] = refl
+pub penalty_ahead : (closed : Bool) (m : PageSoFar) (page items : List Item) → penalty_at closed m page items ≡ penalty_at (closes (ahead_of items closed)) m page (items_ahead (ahead_of items closed))
+penalty_ahead true m page [] = refl
+penalty_ahead false m page [] = refl
 penalty_ahead closed m page (x ∷ []) = refl
 penalty_ahead closed m page (x ∷ y ∷ ys) = refl

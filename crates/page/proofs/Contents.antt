@@ -10,7 +10,7 @@ use Rattle.items.specs.Table.{row_at, item_at, items_at, content, remaining, Wel
 use Rattle.notes.specs.Break.{Within}
 use Rattle.page.specs.PageSoFar.{items_left}
 
-length_span : (a n : ℕ) → length (span a n) ≡ n
+pub length_span : (a n : ℕ) → length (span a n) ≡ n
 length_span a zero = refl
 length_span a (suc n) = ap suc (length_span (suc a) n)
 

@@ -1,6 +1,7 @@
 pub mod Contents
 pub mod Sizes
 pub mod Heights
+pub mod Added
 pub mod Bounds
 pub mod Pages
 pub mod Tables

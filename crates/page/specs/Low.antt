@@ -7,7 +7,7 @@ use Rattle.items.specs.Table.{item_at}
 use Rattle.cost.specs.Sums.{Roomy}
 use Rattle.page.specs.declared.Ground.{Ground}
 use Rattle.page.specs.declared.PageSoFar.{PageSoFar}
-use Rattle.page.specs.PageSoFar.{class_of, rules_of, shelf_size, begin}
+use Rattle.page.specs.PageSoFar.{rules_of, shelf_size, height_of, begin}
 
 -- for a note of a class
 pub record Low (g : Ground) (m : PageSoFar) (c : ℕ) : Type 0 where
@@ -18,7 +18,7 @@ pub record Low (g : Ground) (m : PageSoFar) (c : ℕ) : Type 0 where
   pub total : unsigned_abs m.sums.total < 2 ^ 59
   pub shrink : m.sums.shrink < 2 ^ 62
   pub notes : unsigned_abs m.notes < 2 ^ 30
-  pub height : unsigned_abs (class_of m c).height < 3 * 2 ^ 60
+  pub height : unsigned_abs (height_of g m c) < 3 * 2 ^ 60
 
 -- for the item of a number, and, if it is a note's, also once its class is begun
 pub record Ready (g : Ground) (rows : List Row) (m : PageSoFar) (x : ℕ) : Type 0 where

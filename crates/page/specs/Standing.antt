@@ -3,16 +3,16 @@ use Rattle.std.specs.Prelude.{◌≡◌, ℕ, ◌^◌, ◌≤◌, true, List, le
 use Rattle.std.specs.List.{AllByRecursion}
 use Rattle.items.specs.declared.Item.TheVariants.{Note}
 use Rattle.items.specs.declared.Row.{Row}
-use Rattle.items.specs.Limits.{settings_within, class_within}
+use Rattle.items.specs.Limits.{settings_within, declared_within}
 use Rattle.items.specs.Table.{row_at, item_at, WellFormed}
 use Rattle.page.specs.declared.Ground.{Ground}
 use Rattle.page.specs.declared.PageSoFar.{PageSoFar}
 use Rattle.page.specs.PageSoFar.{so_far}
 
--- settings and classes are within their limits, and no shelf has more than the items of a table
+-- settings and declared classes are within their limits, and no shelf has more than the items of a table
 pub record Grounded (g : Ground) : Type 0 where
   pub settings : settings_within g.settings ≡ true
-  pub classes : AllByRecursion (λ c. class_within c ≡ true) g.classes
+  pub classes : AllByRecursion (λ c. declared_within c ≡ true) g.classes
   pub shelved : AllByRecursion (λ z. unsigned_abs z ≤ 2 ^ 45) g.shelved
 
 pub record Inside (rows : List Row) (x : ℕ) : Type 0 where

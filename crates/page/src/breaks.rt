@@ -1,36 +1,41 @@
 // Where the current page may break, and its best break.
-ghost use Rattle.std.specs.Prelude.{◌≡◌, ◌^◌, ◌<◌, ◌≤◌, ◌||◌, map, length, ◌<ℤ◌, Some, unsigned_abs};
+ghost use Rattle.std.specs.Prelude.{◌≡◌, ◌^◌, ◌<◌, ◌≤◌, Bool, false, ◌||◌, map, length, ◌<ℤ◌, Some, MatchOption, unsigned_abs};
 ghost use Rattle.std.specs.List.{AllByRecursion};
-ghost use Rattle.items.specs.Items.{is_box, is_glue, is_note};
+ghost use Rattle.std.specs.Option.{is_none};
+ghost use Rattle.items.specs.declared.Item.{Item};
+ghost use Rattle.items.specs.Items.{is_box, is_note};
 ghost use Rattle.items.specs.Table.{items_at};
 ghost use Rattle.cost.specs.Cost.{forbidden};
-ghost use Rattle.notes.specs.Break.{last_is, first_is};
+ghost use Rattle.cost.specs.Least.{best_of, is_over};
+ghost use Rattle.notes.specs.Break.{last_is};
 ghost use Rattle.page.specs.declared.Ground.{Ground};
 ghost use Rattle.page.specs.Standing.{Inside, Standing};
-ghost use Rattle.page.specs.Breaks.{empty, break_here, best_with, fires_with, listed, penalty_here};
+ghost use Rattle.page.specs.Breaks.{empty, last_note, break_here, best_with, fires_with, penalty_here};
 
 use crate::{ClassSoFar, PageSoFar};
-use cost::least::{Costed, least};
-use cost::{break_cost, stops};
+use cost::break_cost;
+use cost::least::{Costed, weigh};
 use items::{FORBIDDEN, Item, Row};
 use notes::penalty_before;
+use std::ops::ControlFlow;
 
 // A candidate of a page: how many of its items stand before it, what it costs, and what is remembered of it, the
 // page's goal and each class's last note.
-#[derive(Clone, Copy)]
+#[derive(Clone, Copy, PartialEq, Eq, Debug)]
 pub struct PageBreak {
     pub place: usize,
     pub cost: i64,
     pub goal: i64,
-    pub last: [u32; 8],
+    pub last: [Option<u32>; 8],
 }
 
-// What follows the page, as far as a place looks: the next item, the one after it, and whether the book is closed.
-#[derive(Clone, Copy)]
-pub struct Ahead {
-    pub next: Option<Item>,
-    pub after: Option<Item>,
-    pub closed: bool,
+// What follows the page, as far as a place looks: the next item and the one after it, nothing yet, or a closed book's
+// end.
+#[derive(Clone, Copy, PartialEq, Eq, Debug)]
+pub enum Ahead {
+    Items { next: Item, after: Option<Item> },
+    Waiting,
+    End,
 }
 
 impl Costed for PageBreak {
@@ -41,13 +46,6 @@ impl Costed for PageBreak {
     }
 }
 
-// What lies behind a place: whether the page is empty, and whether its last item is a box or a note.
-#[derive(Clone, Copy)]
-struct Behind {
-    vacant: bool,
-    solid: bool,
-}
-
 // After a box or a note, glue is a candidate.
 fn is_solid(item: Item) -> bool
     ensures { result ≡ (is_box item || is_note item) }
@@ -55,54 +53,30 @@ fn is_solid(item: Item) -> bool
     item.is_box() || item.is_note()
 }
 
-impl Behind {
-    fn of(page: &[u32], rows: &[Row]) -> Behind
-        requires numbers { AllByRecursion (Inside rows.now) page.now }
-        requires short { length rows.now ≤ 16384 }
-        ensures vacant { result.vacant ≡ empty (items_at rows.now page.now) }
-        ensures solid { result.solid ≡ last_is (λ y. is_box y || is_note y) (items_at rows.now page.now) }
-    {
-        if page.is_empty() {
-            return Behind {
-                vacant: true,
-                solid: false,
-            };
-        }
-        let last = rows[page[page.len() - 1] as usize - 1].item;
-        Behind {
-            vacant: false,
-            solid: is_solid(last),
-        }
-    }
+// The page's last item. Page and rows stay apart, as both are lent at each call.
+#[tactic(auto, using(crate::proofs::Lasts::last_is_item))]
+fn last_item(page: &[u32], rows: &[Row]) -> Option<Item>
+    requires numbers { AllByRecursion (Inside rows.now) page.now }
+    requires short { length rows.now ≤ 16384 }
+    ensures vacant { is_none result ≡ empty (items_at rows.now page.now) }
+    ensures last { (p : Item → Bool) → MatchOption result (last_is p (items_at rows.now page.now) ≡ false) (λ y. last_is p (items_at rows.now page.now) ≡ p y) }
+{
+    let x = *page.last()?;
+    Some(rows[x as usize - 1].item)
 }
 
-impl Ahead {
-    fn before_glue(self) -> bool
-        ensures { result ≡ first_is is_glue (listed self.after) }
-    {
-        match self.after {
-            Some(item) => item.is_glue(),
-            None => false,
-        }
-    }
+// A class's last note.
+fn last_note(class: Option<ClassSoFar>) -> Option<u32>
+    ensures { result ≡ last_note class }
+{
+    Some(class?.last)
 }
 
 // The classes' last notes.
-fn last_notes(classes: &[ClassSoFar; 8]) -> [u32; 8]
-    ensures { result ≡ map (λ k. k.last) classes.now }
+fn last_notes(classes: [Option<ClassSoFar>; 8]) -> [Option<u32>; 8]
+    ensures { result ≡ map last_note classes }
 {
-    let mut last = [0; 8];
-    for k in 0..8 {
-        last[k] = classes[k].last;
-    }
-    last
-}
-
-// What a look at the place after the page leaves: the best break so far, and whether the page fires.
-#[derive(Clone, Copy)]
-pub struct Looked {
-    pub best: Option<PageBreak>,
-    pub fires: bool,
+    classes.map(last_note)
 }
 
 impl PageSoFar {
@@ -112,13 +86,15 @@ impl PageSoFar {
         requires short { length rows.now ≤ 16384 }
         ensures { result ≡ penalty_here self.now rows.now page.now ahead }
     {
-        let behind = Behind::of(page, rows);
-        match ahead.next {
-            None if ahead.closed && !behind.vacant => Some(-FORBIDDEN),
-            None => None,
-            Some(next) if self.boxes => penalty_before(behind.solid, next, ahead.before_glue()),
-            Some(next) if next.is_box() && !behind.vacant => Some(0),
-            Some(_) => None,
+        let last = last_item(page, rows);
+        let solid = last.is_some_and(is_solid);
+        match ahead {
+            Ahead::End if last.is_some() => Some(-FORBIDDEN),
+            Ahead::Items { next, after } if self.boxes => {
+                penalty_before(solid, next, after.is_some_and(Item::is_glue))
+            }
+            Ahead::Items { next, .. } if next.is_box() && last.is_some() => Some(0),
+            _ => None,
         }
     }
 
@@ -132,34 +108,45 @@ impl PageSoFar {
             place,
             cost: break_cost(self.sums.fit(self.goal), penalty, self.notes),
             goal: self.goal,
-            last: last_notes(&self.classes),
+            last: last_notes(self.classes),
         }
     }
 
-    // The best of the breaks so far and the one with this penalty, and whether that one fires the page.
-    fn weigh(&self, place: usize, penalty: i32, best: Option<PageBreak>) -> Looked
+    // The best of the breaks so far and the one with this penalty: `Break` where that one fires the page.
+    #[tactic(auto, using(cost::proofs::Costs::cost_most))]
+    fn weigh(
+        &self,
+        place: usize,
+        penalty: i32,
+        best: Option<PageBreak>,
+    ) -> ControlFlow<PageBreak, Option<PageBreak>>
         requires goal { unsigned_abs self.now.goal < 2 ^ 62 }
         requires total { unsigned_abs self.now.sums.total < 2 ^ 62 }
         requires allowed { penalty <ℤ forbidden }
-        ensures best { result.best ≡ best_with self.now place best (Some penalty) }
-        ensures fires { result.fires ≡ fires_with self.now place (Some penalty) }
+        ensures best { best_of result ≡ best_with self.now place best (Some penalty) }
+        ensures fires { is_over result ≡ fires_with self.now place (Some penalty) }
     {
         let here = self.break_here(place, penalty);
-        Looked {
-            best: Some(least(best, here)),
-            fires: stops(here.cost, penalty),
-        }
+        weigh(best, here, penalty)
     }
 
-    // Looks at the place between the page and what follows it.
-    pub fn look(&self, page: &[u32], rows: &[Row], ahead: Ahead, best: Option<PageBreak>) -> Looked
+    // Looks at the place between the page and what follows it: the best break so far, as a `Break` where
+    // the page fires.
+    #[tactic(auto, using(crate::proofs::Bounds::standing_goal, crate::proofs::Bounds::standing_total, crate::proofs::Candidates::penalty_allowed))]
+    pub fn look(
+        &self,
+        page: &[u32],
+        rows: &[Row],
+        ahead: Ahead,
+        best: Option<PageBreak>,
+    ) -> ControlFlow<PageBreak, Option<PageBreak>>
         requires { (basis : Ground) × Standing basis rows.now page.now self.now }
-        ensures best { result.best ≡ best_with self.now (length page.now) best (penalty_here self.now rows.now page.now ahead) }
-        ensures fires { result.fires ≡ fires_with self.now (length page.now) (penalty_here self.now rows.now page.now ahead) }
+        ensures best { best_of result ≡ best_with self.now (length page.now) best (penalty_here self.now rows.now page.now ahead) }
+        ensures fires { is_over result ≡ fires_with self.now (length page.now) (penalty_here self.now rows.now page.now ahead) }
     {
         match self.penalty(page, rows, ahead) {
             Some(penalty) => self.weigh(page.len(), penalty, best),
-            None => Looked { best, fires: false },
+            None => ControlFlow::Continue(best),
         }
     }
 }

@@ -6,7 +6,7 @@ ghost use Rattle.items.specs.declared.Item.TheVariants.{Box};
 ghost use Rattle.items.specs.Items.{within_limits};
 ghost use Rattle.items.specs.Table.{WellFormed};
 ghost use Rattle.cost.specs.Sums.{Roomy};
-ghost use Rattle.page.specs.PageSoFar.{fresh, with_sums, with_lead, with_box, with_text, next, so_far};
+ghost use Rattle.page.specs.PageSoFar.{fresh, rules_of, with_sums, with_lead, with_box, with_text, next, so_far};
 ghost use Rattle.page.specs.Low.{Ready};
 ghost use Rattle.page.specs.Standing.{Standing, Arriving};
 
@@ -17,45 +17,53 @@ use arrivals::left;
 use cost::sums::Sums;
 use items::{Class, Item, Row, Settings};
 
-// What a page is built on: settings, classes, and the size of what lies on each class's shelf.
-#[derive(Clone, Copy)]
+// What a page is built on: settings, the classes that are declared, and the size of what lies on each class's shelf.
+// Classes and shelves are two arrays, since a book keeps its classes and makes the sizes anew from its shelves.
+#[derive(Clone, Copy, PartialEq, Eq, Debug)]
 pub struct Ground {
     pub settings: Settings,
-    pub classes: [Class; 8],
+    pub classes: [Option<Class>; 8],
     pub shelved: [i64; 8],
 }
 
-// A class on the current page: whether a note of it has arrived, whether its last note is split, how high its
-// notes are with what lies on the shelf, the last note's number or 0, and, where it is split, how many of its
-// remaining items stand before the break.
-#[derive(Clone, Copy)]
+// A class with a note on the current page: how high its notes are with what lies on the shelf, the last note's
+// number, and, where the page splits that note, how many of its remaining items stand before the break.
+#[derive(Clone, Copy, PartialEq, Eq, Debug)]
 pub struct ClassSoFar {
-    pub begun: bool,
-    pub split: bool,
     pub height: i64,
     pub last: u32,
-    pub before: usize,
+    pub broken: Option<usize>,
 }
 
 // What the current page comes to: its goal, its sums, what split and floating notes add to the cost of a break,
-// whether it has a box, and its classes.
-#[derive(Clone, Copy)]
+// whether it has a box, and its classes, each from its first note on.
+#[derive(Clone, Copy, PartialEq, Eq, Debug)]
 pub struct PageSoFar {
     pub goal: i64,
     pub sums: Sums,
     pub notes: i32,
     pub boxes: bool,
-    pub classes: [ClassSoFar; 8],
+    pub classes: [Option<ClassSoFar>; 8],
 }
 
-// What goes on the page of a note: its height, what it adds to the cost of a break, whether the note is split,
-// and then how many of its items stand before the break.
-#[derive(Clone, Copy)]
+// What goes on the page of a note: its height, what it adds to the cost of a break, and, where the note is split,
+// how many of its items stand before the break. Its bounds are no facts of the type, since the definitions make one of
+// any content.
+#[derive(Clone, Copy, PartialEq, Eq, Debug)]
 pub struct Taken {
     pub height: i64,
     pub adds: i32,
-    pub split: bool,
-    pub before: usize,
+    pub broken: Option<usize>,
+}
+
+impl Ground {
+    // What counts for a class, declared or not.
+    fn rules(&self, class: usize) -> Class
+        requires { class < 8 }
+        ensures { result ≡ rules_of self.now class }
+    {
+        self.classes[class].unwrap_or_default()
+    }
 }
 
 impl PageSoFar {
@@ -63,19 +71,12 @@ impl PageSoFar {
     pub fn new(basis: &Ground) -> PageSoFar
         ensures { result ≡ fresh basis.now }
     {
-        let untouched = ClassSoFar {
-            begun: false,
-            split: false,
-            height: 0,
-            last: 0,
-            before: 0,
-        };
         PageSoFar {
             goal: basis.settings.size as i64,
             sums: Sums::new(),
             notes: 0,
             boxes: false,
-            classes: [untouched; 8],
+            classes: [None; 8],
         }
     }
 
@@ -108,7 +109,8 @@ impl PageSoFar {
         self.sums.add(item, settings.depth);
     }
 
-    // The item of a number joins the page, where the numbers are low.
+    // The item of a number joins the page, where the numbers are low. Table and number stay apart, as the table is lent at
+    // each call.
     fn put(&mut self, basis: &Ground, rows: &[Row], x: u32)
         requires table { WellFormed rows.now }
         requires short { length rows.now ≤ 16384 }
@@ -128,6 +130,7 @@ impl PageSoFar {
     }
 
     // The item or note of a number joins the page: what a list gives becomes what the list with it gives.
+    #[tactic(auto, using(crate::proofs::Pages::so_far_next))]
     pub fn add(&mut self, basis: &Ground, rows: &[Row], x: u32)
         requires standing { (page : List ℕ) × Standing basis.now rows.now page self.old }
         requires arriving { Arriving rows.now x }

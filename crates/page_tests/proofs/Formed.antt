@@ -8,7 +8,7 @@ use Rattle.items.specs.declared.Item.{Item}
 use Rattle.items.specs.declared.Item.TheVariants.{Box, Glue, Kern, Penalty, Note}
 use Rattle.items.specs.declared.Row.{Row}
 use Rattle.items.specs.Items.{is_note, within_limits, blank}
-use Rattle.items.specs.Table.{row_at, item_at, note_at, Content, WellFormed}
+use Rattle.items.specs.Table.{row_at, item_at, owner, note_at, Content, WellFormed}
 use Rattle.page.specs.Standing.{Inside, Arriving}
 use Rattle.page_tests.specs.Galley.{galley}
 
@@ -48,7 +48,7 @@ module _ (rows : List Row) where
   content_good x (Note c n) = ltb c 8 && (leb (x + n) (length rows) && each_of (content_of x) (x + 1) n)
 
   abbrev row_good : ℕ → Row → Bool
-  row_good x r = leb r.note (length rows) && (within_limits r.item && content_good x r.item)
+  row_good x r = leb (owner r) (length rows) && (within_limits r.item && content_good x r.item)
 
   module _ (good : each_row row_good 1 rows ≡ true) where
     here_good : (x : ℕ) → 1 ≤ x → x - 1 < length rows → row_good x (row_at rows x) ≡ true

@@ -1,31 +1,22 @@
 // The galley of the tests, and pages of it.
-ghost use Rattle.std.specs.Prelude.{◌≡◌, ◌^◌, ◌≤◌, pos, true, IfOk, unsigned_abs};
-ghost use Rattle.items.specs.declared.Item.TheVariants.{Box, Glue};
+ghost use Rattle.std.specs.Prelude.{◌≡◌, ◌^◌, ◌≤◌, pos, IfOk, unsigned_abs};
+ghost use Rattle.items.specs.declared.Item.TheVariants.{Glue};
 ghost use Rattle.items.specs.Items.{most};
 ghost use Rattle.page.specs.Standing.{Grounded, Standing};
 ghost use Rattle.page_tests.specs.Galley.{galley};
 
 use items::{Class, Item, Row, Settings};
-use page::breaks::{Ahead, Looked, PageBreak};
+use page::breaks::{Ahead, PageBreak};
 use page::{Ground, PageSoFar};
+use samples::{bx, check, glue, kern, penalty};
+use std::ops::ControlFlow;
 use std::test::Fail;
 
-pub(crate) fn bx(height: u32, depth: u32) -> Item
-    ensures { result ≡ Box height depth }
-{
-    Item::Box { height, depth }
-}
-
 // Glue of width 10, with 4 to shrink.
-pub(crate) fn glue() -> Item
+pub(crate) fn shrinking() -> Item
     ensures { result ≡ Glue (pos 10) 0 0 4 }
 {
-    Item::Glue {
-        width: 10,
-        stretch: 0,
-        order: 0,
-        shrink: 4,
-    }
+    glue(10, 0, 0, 4)
 }
 
 // Numbers 2, 9 and 13 are notes, each before its content.
@@ -33,20 +24,20 @@ pub(crate) fn galley() -> [Row; 14]
     ensures { result ≡ galley }
 {
     [
-        Row::fed(bx(8, 2), 0),
-        Row::fed(Item::Note { class: 0, count: 2 }, 0),
-        Row::fed(bx(8, 2), 2),
-        Row::fed(bx(8, 2), 2),
-        Row::fed(glue(), 0),
-        Row::fed(bx(40, 2), 0),
-        Row::fed(Item::Kern { width: 3 }, 0),
-        Row::fed(Item::Penalty { value: 50 }, 0),
-        Row::fed(Item::Note { class: 1, count: 3 }, 0),
-        Row::fed(bx(12, 0), 9),
-        Row::fed(Item::Penalty { value: 7 }, 9),
-        Row::fed(bx(15, 0), 9),
-        Row::fed(Item::Note { class: 1, count: 1 }, 0),
-        Row::fed(bx(5, 0), 13),
+        Row::fed(bx(8, 2), None),
+        Row::fed(Item::Note { class: 0, count: 2 }, None),
+        Row::fed(bx(8, 2), Some(2)),
+        Row::fed(bx(8, 2), Some(2)),
+        Row::fed(shrinking(), None),
+        Row::fed(bx(40, 2), None),
+        Row::fed(kern(3), None),
+        Row::fed(penalty(50), None),
+        Row::fed(Item::Note { class: 1, count: 3 }, None),
+        Row::fed(bx(12, 0), Some(9)),
+        Row::fed(penalty(7), Some(9)),
+        Row::fed(bx(15, 0), Some(9)),
+        Row::fed(Item::Note { class: 1, count: 1 }, None),
+        Row::fed(bx(5, 0), Some(13)),
     ]
 }
 
@@ -58,28 +49,19 @@ pub(crate) fn ground(size: u32, shelved: i64) -> Ground
     requires shelved { unsigned_abs shelved ≤ 2 ^ 45 }
     ensures { Grounded result }
 {
-    let undeclared = Class {
-        declared: false,
-        floating: 0,
-        limit: 0,
-        skip: 0,
-        depth: 0,
-    };
-    let mut classes = [undeclared; 8];
-    classes[0] = Class {
-        declared: true,
+    let mut classes = [None; 8];
+    classes[0] = Some(Class {
         floating: 100,
         limit: 60,
         skip: 5,
         depth: 5,
-    };
-    classes[1] = Class {
-        declared: true,
+    });
+    classes[1] = Some(Class {
         floating: 30,
         limit: 20,
         skip: 3,
         depth: 2,
-    };
+    });
     Ground {
         settings: Settings {
             size,
@@ -89,13 +71,6 @@ pub(crate) fn ground(size: u32, shelved: i64) -> Ground
         classes,
         shelved: [shelved, 0, 0, 0, 0, 0, 0, 0],
     }
-}
-
-// An error where something does not hold.
-fn check(holds: bool, what: &str) -> Result<(), Fail>
-    ensures { IfOk result (λ _. holds ≡ true) }
-{
-    if holds { Ok(()) } else { Err(Fail::new(what)) }
 }
 
 // The page of some numbers of the galley.
@@ -120,7 +95,7 @@ pub(crate) fn look(
     numbers: &[u32],
     ahead: Ahead,
     best: Option<PageBreak>,
-) -> Result<Looked, Fail>
+) -> Result<ControlFlow<PageBreak, Option<PageBreak>>, Fail>
     requires { Grounded basis.now }
 {
     let page = page_of(basis, numbers)?;

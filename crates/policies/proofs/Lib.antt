@@ -1,3 +1,4 @@
 pub mod Splitting
-pub mod Columns
+pub mod Limiting
+pub mod Pairing
 pub mod Shelves

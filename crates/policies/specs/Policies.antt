@@ -1,6 +1,7 @@
 -- The meaning of a page policy, and the rules of the four.
 use Rattle.std.specs.Prelude.{◌≡◌, ℕ, ◌+◌, ◌<◌, ◌≤◌, Bool, true, false, cond, ◌⊎◌, List, [], ◌∷◌, ◌++◌, length, take, drop, replicate, ℤ, ◌==◌}
 use Rattle.items.specs.declared.Row.{Row}
+use Rattle.policies.specs.declared.FiredPage.{FiredPage}
 use Rattle.policies.specs.declared.Verdict.{Verdict}
 use Rattle.policies.specs.declared.plain.Plain.{Plain}
 use Rattle.policies.specs.declared.footnoted.Footnoted.{Footnoted}
@@ -13,6 +14,10 @@ pub record Given : Type 0 where
   pub shelved : List ℕ
   pub penalty : ℤ
   pub rows : List Row
+
+-- the same, of the values that a fired page refers to
+abbrev pub given : FiredPage → Given
+given page = record { body = page.body.now; shelved = page.shelved.now; penalty = page.penalty; rows = page.rows.now }
 
 abbrev pub shipped_of : List ℕ → Verdict → List ℕ
 shipped_of all v = take v.shipped all
@@ -53,7 +58,7 @@ FootnotedRule p g v q = (v.shipped ≡ length g.body) × (v.held ≡ 0) × (v.cl
 
 module _ {P : Type 0} (held : P → List ℕ) (rule : Rule P) where
   abbrev pub column_of : Paired P → List ℕ
-  column_of p = take p.len p.column
+  column_of p = p.column.items
 
   abbrev pub held_by_paired : Paired P → List ℕ
   held_by_paired p = column_of p ++ held p.below
@@ -61,11 +66,11 @@ module _ {P : Type 0} (held : P → List ℕ) (rule : Rule P) where
   -- with no column yet, 1 to 512 items that ship below become the column and nothing ships; else column and shipped items ship
   pub data PairedRule : Paired P → Given → Verdict → Paired P → Type 0 where
     sets_aside : {p q : Paired P} {g : Given} {v : Verdict} (w : Verdict) → rule p.below g w q.below →
-        p.len ≡ 0 → 1 ≤ w.shipped → w.shipped ≤ 512 → column_of q ≡ shipped_of (held p.below ++ g.body) w →
+        column_of p ≡ [] → 1 ≤ w.shipped → w.shipped ≤ 512 → column_of q ≡ shipped_of (held p.below ++ g.body) w →
         v.shipped ≡ 0 → v.held ≡ w.shipped + w.held → v.classes ≡ no_class → PairedRule p g v q
     ships : {p q : Paired P} {g : Given} {v : Verdict} (w : Verdict) → rule p.below g w q.below →
-        ((0 < p.len) ⊎ ((w.shipped ≡ 0) ⊎ (512 < w.shipped))) → column_of q ≡ [] →
-        v.shipped ≡ p.len + w.shipped → v.held ≡ w.held → v.classes ≡ w.classes → PairedRule p g v q
+        ((0 < length (column_of p)) ⊎ ((w.shipped ≡ 0) ⊎ (512 < w.shipped))) → column_of q ≡ [] →
+        v.shipped ≡ length (column_of p) + w.shipped → v.held ≡ w.held → v.classes ≡ w.classes → PairedRule p g v q
 
   abbrev pub held_by_limited : Limited P → List ℕ
   held_by_limited l = held l.below

@@ -2,8 +2,7 @@
 ghost use Rattle.std.specs.Prelude.{[]};
 ghost use Rattle.policies.specs.Policies.{FootnotedRule};
 
-use crate::{Policy, Verdict};
-use items::Row;
+use crate::{FiredPage, Policy, Verdict};
 
 #[derive(Clone, Copy)]
 pub struct Footnoted;
@@ -13,14 +12,8 @@ impl Policy for Footnoted {
 
     ghost rule = { FootnotedRule };
 
-    fn judge(
-        &mut self,
-        body: &[u32],
-        _shelved: &[u32; 8],
-        _penalty: i32,
-        _rows: &[Row],
-    ) -> Verdict {
-        Verdict::all(body.len(), [true; 8])
+    fn judge(&mut self, page: FiredPage<'_>) -> Verdict {
+        Verdict::all(page.body.len(), [true; 8])
     }
 
     fn release(&mut self) -> usize {

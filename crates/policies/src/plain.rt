@@ -2,9 +2,10 @@
 ghost use Rattle.std.specs.Prelude.{[]};
 ghost use Rattle.policies.specs.Policies.{PlainRule};
 
-use crate::{Policy, Verdict};
-use items::Row;
+use crate::{FiredPage, Policy, Verdict};
 
+// Footnoted differs in the classes alone: each of the four policies is a type with its own rule. Both say that they
+// hold nothing, which no default body of the trait could know.
 #[derive(Clone, Copy)]
 pub struct Plain;
 
@@ -13,14 +14,8 @@ impl Policy for Plain {
 
     ghost rule = { PlainRule };
 
-    fn judge(
-        &mut self,
-        body: &[u32],
-        _shelved: &[u32; 8],
-        _penalty: i32,
-        _rows: &[Row],
-    ) -> Verdict {
-        Verdict::all(body.len(), [false; 8])
+    fn judge(&mut self, page: FiredPage<'_>) -> Verdict {
+        Verdict::all(page.body.len(), [false; 8])
     }
 
     fn release(&mut self) -> usize {

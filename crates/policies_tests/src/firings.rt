@@ -1,20 +1,20 @@
 // Drives a policy through a list of firings.
-ghost use Rattle.std.specs.Prelude.{◌≡◌, ◌+◌, ◌^◌, ◌<◌, ◌≤◌, true, [], length, IfOk};
+ghost use Rattle.std.specs.Prelude.{◌≡◌, ◌+◌, ◌^◌, ◌<◌, ◌≤◌, [], length};
 
-use policies::{Policy, Verdict};
+use policies::{FiredPage, Policy, Verdict};
+use samples::check;
+use std::array;
 use std::test::Fail;
 
-// `body` items are fired while each shelf has `shelved`; then the first `shipped` of what was held and the body
-// ship, `held` are held, and every class ships or none does.
+// `body` items are fired while each shelf has `shelved`.
 #[derive(Clone, Copy)]
 pub(crate) struct Firing {
     body: usize,
     shelved: u32,
-    shipped: usize,
-    held: usize,
-    classes: bool,
+    verdict: Verdict,
 }
 
+// The first `shipped` of what was held and the body are to ship, `held` to be held, and every class or none ships.
 pub(crate) fn fire(
     body: usize,
     shelved: u32,
@@ -25,85 +25,52 @@ pub(crate) fn fire(
     Firing {
         body,
         shelved,
-        shipped,
-        held,
-        classes,
+        verdict: Verdict {
+            shipped,
+            held,
+            classes: [classes; 8],
+        },
     }
 }
 
 // The numbers from 1 on.
 fn numbers() -> [u32; 2048] {
-    let mut numbers = [0; 2048];
-    for i in 0..2048 {
-        numbers[i] = i as u32 + 1;
-    }
-    numbers
-}
-
-// Judges; no more are then held than were held and fired.
-fn judge<P: Policy>(policy: &mut P, body: &[u32], shelved: u32) -> Verdict
-    requires { length (P.Policy.held policy.old) + length body.now ≤ 16384 }
-    ensures { length (P.Policy.held policy.new) ≤ length (P.Policy.held policy.old) + length body.now }
-{
-    policy.judge(body, &[shelved; 8], 10_000, &[])
-}
-
-// An error where something does not hold.
-fn check(holds: bool, what: &str) -> Result<(), Fail>
-    ensures { IfOk result (λ _. holds ≡ true) }
-{
-    if holds { Ok(()) } else { Err(Fail::new(what)) }
+    array::from_fn(|i| i as u32 + 1)
 }
 
 // The items held are the last of those fired.
-fn check_held<P: Policy>(policy: &P, held: usize, fired: usize) -> Result<(), Fail>
+fn check_held<P: Policy>(policy: &P, held: usize, fired: &[u32]) -> Result<(), Fail>
     requires { length (P.Policy.held policy.now) < 2 ^ 64 }
 {
     check(policy.held_count() == held, "how many are held")?;
-    for k in 0..policy.held_count() {
-        check(
-            k < held && held <= fired && fired <= 2048,
-            "no more are held than fired",
-        )?;
-        check(
-            policy.held_at(k) == Some((fired - held + k + 1) as u32),
-            "an item held",
-        )?;
-    }
-    Ok(())
+    check(held <= fired.len(), "no more are held than fired")?;
+    let last = &fired[fired.len() - held..];
+    let mut places = last.iter().enumerate();
+    check(
+        places.all(|(k, &item)| policy.held_at(k) == Some(item)),
+        "the items held",
+    )
 }
 
-fn check_classes(verdict: &Verdict, classes: bool) -> Result<(), Fail> {
-    for i in 0..8 {
-        check(verdict.classes[i] == classes, "a class")?;
-    }
-    Ok(())
-}
-
-// Nothing is ever returned, so all that was held and fired ships or is held.
-fn check_firing<P: Policy>(
-    policy: &mut P,
-    body: &[u32],
-    firing: Firing,
-    fired: usize,
-) -> Result<(), Fail>
-    requires { length (P.Policy.held policy.old) + length body.now ≤ 16384 }
-    ensures { length (P.Policy.held policy.new) ≤ length (P.Policy.held policy.old) + length body.now }
+// The last of those fired are the body. Nothing is ever returned, so all that was held and fired ships or is held.
+fn check_firing<P: Policy>(policy: &mut P, firing: Firing, fired: &[u32]) -> Result<(), Fail>
+    requires body { firing.body ≤ length fired.now }
+    requires few { length (P.Policy.held policy.old) + firing.body ≤ 16384 }
+    ensures { length (P.Policy.held policy.new) ≤ length (P.Policy.held policy.old) + firing.body }
 {
-    let before = policy.held_count();
-    let verdict = judge(policy, body, firing.shelved);
-    check(verdict.shipped == firing.shipped, "how many ship")?;
-    check(verdict.held == firing.held, "how many are to be held")?;
+    let all = policy.held_count() + firing.body;
+    let verdict = policy.judge(FiredPage {
+        body: &fired[fired.len() - firing.body..],
+        shelved: &[firing.shelved; 8],
+        penalty: 10_000,
+        rows: &[],
+    });
+    check(verdict == firing.verdict, "the verdict")?;
     check(
-        verdict.shipped <= 16_384 && verdict.held <= 16_384,
-        "no more than a table has",
-    )?;
-    check(
-        verdict.shipped + verdict.held == before + body.len(),
+        verdict.shipped + verdict.held == all,
         "how many are returned",
     )?;
-    check_classes(&verdict, firing.classes)?;
-    check_held(policy, firing.held, fired)
+    check_held(policy, verdict.held, fired)
 }
 
 pub(crate) fn drive<P: Policy + Drop>(mut policy: P, firings: &[Firing]) -> Result<(), Fail>
@@ -112,13 +79,9 @@ pub(crate) fn drive<P: Policy + Drop>(mut policy: P, firings: &[Firing]) -> Resu
     let numbers = numbers();
     let mut fired = 0;
     for firing in firings {
-        let first = fired;
-        check(
-            firing.body <= 2048 && first + firing.body <= 2048,
-            "as many numbers as there are",
-        )?;
-        fired = first + firing.body;
-        check_firing(&mut policy, &numbers[first..fired], *firing, fired)?;
+        check(firing.body <= 2048 - fired, "as many numbers as there are")?;
+        fired += firing.body;
+        check_firing(&mut policy, *firing, &numbers[..fired])?;
     }
     let held = policy.held_count();
     check(policy.release() == held, "how many are released")?;

@@ -5,7 +5,6 @@ use policies::footnoted::Footnoted;
 use policies::limited::Limited;
 use policies::paired::Paired;
 use policies::plain::Plain;
-use std::process::Abort;
 use std::test::Fail;
 
 // No class ships until the limiter acts, and a settling that ships body text starts the count again.
@@ -102,24 +101,16 @@ fn pairs_of_pairs() -> Result<(), Fail> {
     )
 }
 
-fn check_bound(rt: &impl Abort, bound: u32, made: bool) -> Result<(), Fail> {
-    match Limited::new(Plain, bound) {
-        Ok(_) => {
-            assert!(rt; made, "a bound that is to be refused");
-            Ok(())
-        },
-        Err(refusal) => {
-            assert!(rt; !made, "a bound that is not to be refused");
-            assert_eq!(rt; (refusal.cause.number(), refusal.offset), (1, 0));
-            Ok(())
-        }
-    }
+// The number and the offset of the refusal of a bound, if it is refused.
+fn refusal_of(bound: u32) -> Option<(u32, usize)> {
+    let refusal = Limited::new(Plain, bound).err()?;
+    Some((u32::from(refusal.cause), refusal.offset))
 }
 
 #[test]
-fn bounds(rt: HostRuntime) -> Result<(), Fail> {
-    check_bound(&rt, 0, false)?;
-    check_bound(&rt, 1, true)?;
-    check_bound(&rt, 100, true)?;
-    check_bound(&rt, 101, false)
+fn bounds(rt: HostRuntime) {
+    assert_eq!(&rt; refusal_of(0), Some((1, 0)));
+    assert_eq!(&rt; refusal_of(1), None);
+    assert_eq!(&rt; refusal_of(100), None);
+    assert_eq!(&rt; refusal_of(101), Some((1, 0)));
 }

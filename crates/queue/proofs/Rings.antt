@@ -1,6 +1,6 @@
 -- A ring queue's entries stand in the cells that its places name; each place is that of one entry.
 use Rattle.std.proofs.Common.{◌≡◌, ℕ, zero, suc, ◌+◌, ◌-◌, ◌<◌, ◌≤◌, true, false, ltb, ◌≢◌, ◌⊎◌, List, [], ◌∷◌, ◌++◌, length, get_or, take, drop, set, sym, ap, ◌∙◌, ap₂, inl, inr, arith}
-use Rattle.std.proofs.lemmas.List.{length-append, length-drop, length-take-le, length-set, length_push, get_or-take, get_or-drop, get_or_append_left, get_or-append_right, get_or-set_same, get_or-set_other, get_or_push, get_or_default, same_lists}
+use Rattle.std.proofs.lemmas.List.{length-append, length-drop, length-take-le, length-set, length_push, get_or-take, get_or-drop, get_or_append_left, get_or-append_right, get_or-set_same, get_or-set_other, get_or_push, get_or_default, get_or_read, same_lists}
 use Rattle.std.proofs.lemmas.Bool.{cases_lt, cases_eq, lt-ltb, le-ltb}
 use Rattle.std.proofs.lemmas.Bool.Decides.{nat_tests}
 use Rattle.queue.specs.declared.Queue.{Queue}
@@ -182,3 +182,7 @@ module _ {T : Type 0} where
   pub rest_at : (cells : List T) (a l h n : ℕ) → h ≡ next (length cells) a → n ≡ l - 1 → Within (record { head = a; len = l }) cells → 0 < l →
       list_of (record { head = h; len = n }) cells ≡ drop 1 (list_of (record { head = a; len = l }) cells)
   rest_at cells a l h n e f w o = ap₂ (λ h n. list_of (record { head = h; len = n }) cells) e f ∙ rest_is (record { head = a; len = l }) cells w o
+
+-- what is read at the place of the k-th entry is that entry
+pub read_at : {T : Type 0} (q : Queue) (cells : List T) (k p : ℕ) (x d : T) → Within q cells → k < q.len → p ≡ place_of (length cells) q.head k → p < length cells → x ≡ get_or cells p x → x ≡ get_or (list_of q cells) k d
+read_at q cells k p x d w l e m is = get_or_read cells p x m is d ∙ ap (λ i. get_or cells i d) e ∙ sym (list_at q cells w k d l)

@@ -4,14 +4,16 @@
 ghost use Rattle.std.specs.Prelude.{◌≡◌, ◌+◌, ◌<◌, [], ◌∷◌, ◌++◌, length, drop, MatchOption, slice_index_or};
 ghost use Rattle.queue.specs.Queues.{none, Within, list_of, place_of, next, previous};
 
-// `len` entries from `head` on, going round at the end of the cells.
-#[derive(Clone, Copy)]
+// `len` entries from `head` on, going round at the end of the cells. The cells are lent at each call and not kept
+// here, so each call asks that the entries lie within them.
+#[derive(Clone, Copy, PartialEq, Eq, Debug)]
 pub struct Queue {
     pub head: usize,
     pub len: usize,
 }
 
-// The cell of the k-th entry from `head` on, among `n` cells.
+// The cell of the k-th entry from `head` on, among `n` cells. These three take plain numbers: a struct of them would be
+// made for each call.
 fn cell(n: usize, head: usize, k: usize) -> usize
     requires head { head < n }
     requires k { k < n }
@@ -36,15 +38,6 @@ fn cell_after(n: usize, head: usize) -> usize
     ensures within { result < n }
 {
     if head + 1 < n { head + 1 } else { 0 }
-}
-
-// The k-th entry.
-fn read<T: Copy>(queue: Queue, cells: &[T], k: usize) -> T
-    requires within { Within queue cells.now }
-    requires k { k < queue.len }
-    ensures { (d : T) → result ≡ slice_index_or (list_of queue cells.now) k d }
-{
-    cells[cell(cells.len(), queue.head, k)]
 }
 
 // Writes the cell behind the last entry.
@@ -92,12 +85,13 @@ impl Queue {
     }
 
     // The k-th entry, counted from 0.
+    #[tactic(auto, using(crate::proofs::Rings::read_at))]
     pub fn get<T: Copy>(&self, cells: &[T], k: usize) -> T
         requires within { Within self.now cells.now }
         requires k { k < self.now.len }
         ensures { (d : T) → result ≡ slice_index_or (list_of self.now cells.now) k d }
     {
-        read(*self, cells, k)
+        cells[cell(cells.len(), self.head, k)]
     }
 
     // One entry more at the back.
@@ -132,7 +126,7 @@ impl Queue {
         if self.len == 0 {
             return None;
         }
-        let first = read(*self, cells, 0);
+        let first = self.get(cells, 0);
         *self = rest(*self, cells);
         Some(first)
     }

@@ -11,16 +11,16 @@ use Rattle.notes.proofs.pass.Goals as goal
 
 pub add-requires : goal.add-requires
 add-requires c =
-    let rows = c.args.rows.now in
+    let rows = c.args.content.rows.now in
     record {
-      within = row_within rows c.args.k blank c.requires.place c.requires.content;
-      roomy = summed_roomy (items_of rows) c.args.column c.args.k (simp length-map (omega arith)) c.args.sums.now c.requires.content (simp length-map c.requires.short) c.requires.summed;
+      within = row_within rows c.args.place blank c.requires.place c.args.content.within;
+      roomy = summed_roomy (items_of rows) c.args.column c.args.place (simp length-map (omega arith)) c.args.sums.now c.args.content.within (simp length-map c.args.content.short) c.requires.summed;
     }
 
 pub returns : goal.returns
 returns c =
-    let rows = c.args.rows.now in
+    let rows = c.args.content.rows.now in
     let d = c.args.column.depth in
-    let x = (get_or rows c.args.k blank).item in
-    c.add.ensures ∙ ap (λ s. weighed d s x) c.requires.summed ∙ sym (fold_push (weighed d) none (take c.args.k (items_of rows)) x) ∙
-    sym (ap (sums_of d) (items_of_take rows c.args.k blank c.requires.place))
+    let x = (get_or rows c.args.place blank).item in
+    c.add.ensures ∙ ap (λ s. weighed d s x) c.requires.summed ∙ sym (fold_push (weighed d) none (take c.args.place (items_of rows)) x) ∙
+    sym (ap (sums_of d) (items_of_take rows c.args.place blank c.requires.place))

@@ -14,5 +14,5 @@ asked rows k r a b l p q e =
 
 pub returns : goal.returns
 returns c =
-    asked c.args.rows.now c.args.k c.penalty_before.result c.after_box.result c.before_glue.result c.requires.within
+    asked c.args.content.rows.now c.args.place c.penalty_before.result c.after_box.result c.before_glue.result c.requires
     c.after_box.ensures c.before_glue.ensures c.penalty_before.ensures

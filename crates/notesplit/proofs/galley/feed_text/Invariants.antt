@@ -1,7 +1,11 @@
-use Rattle.std.proofs.Common.{map}
-use Rattle.book.specs.View.{lent, Kept}
+use Rattle.std.proofs.Common.{◌-◌, length}
+use Rattle.book.specs.View.{contents_of, Kept}
 use Rattle.notesplit.proofs.galley.feed_text.Given as goal
 
 -- the tables keep the book
-abbrev pub invariant-loop : goal.invariant-loop
-invariant-loop l = Kept l.book (lent l.rows l.contributions l.page l.waiting l.shipped l.pages (map (λ s. s.now) l.shelves))
+abbrev pub invariant-loop-read : goal.invariant-loop-read
+invariant-loop-read l = Kept l.book (contents_of l.tables l.shelves)
+
+-- what is left of the text
+abbrev pub decreases-loop-read : goal.decreases-loop-read
+decreases-loop-read l = length l.list.reader.text.now - l.list.reader.pos

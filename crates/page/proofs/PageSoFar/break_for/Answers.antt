@@ -9,9 +9,9 @@ use Rattle.page.proofs.PageSoFar.break_for.Goals as goal
 
 pub returns : goal.returns
 returns c =
-    let items = items_of c.args.content.now in
+    let items = items_of c.args.content.rows.now in
     let found = c.break_note.ensures.best in
-    let modest = break_modest items c.column.result.height c.column.result.depth c.break_note.result c.requires.within (simp length-map c.requires.short) found in
+    let modest = break_modest items c.column.result.height c.column.result.depth c.break_note.result c.args.content.within (simp length-map c.args.content.short) found in
     record {
       best = found ∙ ap (λ w. break_of items w c.column.result.depth) c.column.ensures.height ∙ ap (break_of items (wanted c.args.basis.now c.args.self.now c.args.class)) c.column.ensures.depth;
       height = omega (arith, modest.height);

@@ -7,9 +7,4 @@ pub begin-requires : goal.begin-requires
 begin-requires c = c.requires.ready.arrived c.in-Note.class c.in-Note.count c.in-Note.is
 
 pub arrive-requires : goal.arrive-requires
-arrive-requires c =
-    record {
-      low = subst (λ m. Low c.args.basis.now m c.in-Note.class) (sym c.begin.ensures) (c.requires.ready.begun c.in-Note.class c.in-Note.count c.in-Note.is);
-      within = c.left.ensures.within;
-      short = c.left.ensures.short;
-    }
+arrive-requires c = subst (λ m. Low c.args.basis.now m c.in-Note.class) (sym c.begin.ensures) (c.requires.ready.begun c.in-Note.class c.in-Note.count c.in-Note.is)

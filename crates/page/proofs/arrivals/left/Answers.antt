@@ -12,14 +12,19 @@ use Rattle.page.proofs.arrivals.left.Goals as goal
 short_rows : (rows : List Row) (items : List Item) → items_of rows ≡ items → length items ≤ 16384 → length rows ≤ 16384
 short_rows rows items e l = omega (arith, length-map rows (λ (r : Row). r.item), ap length e)
 
-pub slice_bounds-result-end : goal.slice_bounds-result-end
-slice_bounds-result-end c = (c.requires.table.content c.args.x c.in-Note.class c.in-Note.count c.requires.arriving.inside.first c.in-Note.is).within
+pub slice_bounds-result-end-2 : goal.slice_bounds-result-end-2
+slice_bounds-result-end-2 c = (c.requires.table.content c.args.x c.in-Note.class c.in-Note.count c.requires.arriving.inside.first c.in-Note.is).within
 
-pub returns-in-Note : goal.returns-in-Note
-returns-in-Note c =
+pub invariant_of-result-2 : goal.invariant_of-result-2
+invariant_of-result-2 c =
     let rows = c.args.rows.now in
     let x = c.args.x in
     let first = c.requires.arriving.inside.first in
-    let within = left_within rows c.requires.table x first in
     let items = left_rows rows c.requires.table x first c.in-Note.class c.in-Note.count (row_at rows x).spent c.in-Note.is refl (c.requires.arriving.spent c.in-Note.class c.in-Note.count c.in-Note.is) in
-    record { items = items; within = subst Within (sym items) within; short = short_rows _ _ items (left_short rows c.requires.table x first c.requires.short) }
+    record { within = subst Within (sym items) (left_within rows c.requires.table x first); short = short_rows _ _ items (left_short rows c.requires.table x first c.requires.short) }
+
+pub returns : goal.returns
+returns c =
+    let rows = c.args.rows.now in
+    left_rows rows c.requires.table c.args.x c.requires.arriving.inside.first c.in-Note.class c.in-Note.count (row_at rows c.args.x).spent c.in-Note.is refl
+    (c.requires.arriving.spent c.in-Note.class c.in-Note.count c.in-Note.is)

@@ -1,34 +1,23 @@
--- One more row adds its item's size.
-use Rattle.std.proofs.Common.{◌≡◌, ◌+◌, ◌≤◌, length, get_or, take, ◌+ℤ◌, ap, ◌∙◌, arith}
+-- The chain gives each row's size, and they add up.
+use Rattle.std.proofs.Common.{◌≤◌, length, map, pos, ◌+ℤ◌, ◌∙◌, rules, arith}
 use borrow.Author.Differences.{ints}
-use Rattle.std.proofs.lemmas.List.{take_all, length-map}
-use Rattle.items.specs.Items.{items_of, size_of, blank}
-use Rattle.notes.proofs.Ends.{row_within}
-use Rattle.page.specs.PageSoFar.{sizes}
-use Rattle.page.proofs.Sizes.{size_small, front_small, front_more}
+use borrow.Author.Tests.{tests}
+use Rattle.std.proofs.lemmas.Iterator.{YieldsList-from_slice, YieldsList-from_map}
+use Rattle.std.proofs.lemmas.Iterator.Adapters.{total_from_yields_List}
+use Rattle.page.proofs.Added.{row_size, runs_fit, rows_small, rows_add, sizes_low}
 use Rattle.page.proofs.arrivals.size_of.Goals as goal
 
-pub overflow_add-size : goal.overflow_add-size
-overflow_add-size c =
-    let rows = c.args.content.now in
-    let k = c.loop-row.row-index in
-    let here = size_small (get_or rows k blank).item (row_within rows k blank c.loop-row-test.true c.requires.within) in
-    let before = front_small rows k c.requires.within c.requires.short c.loop-row.auto.row-index-end in
-    omega (arith, ints)
-
-pub loop-row-preserved : goal.loop-row-preserved
-loop-row-preserved c =
-    let rows = c.args.content.now in
-    let k = c.loop-row.row-index in
-    let here = size_small (get_or rows k blank).item (row_within rows k blank c.loop-row-test.true c.requires.within) in
-    let before = front_small rows k c.requires.within c.requires.short c.loop-row.auto.row-index-end in
-    let more : sizes (take (k + 1) (items_of rows)) ≡ sizes (take k (items_of rows)) +ℤ size_of (get_or rows k blank).item = front_more rows k c.loop-row-test.true in
-    omega (arith, ints)
+pub sum-requires-clause-fits : goal.sum-requires-clause-fits
+sum-requires-clause-fits c =
+    let rows = c.args.content.rows.now in
+    let small = rows_small rows c.args.content.within in
+    let short : length rows ≤ 16384 = c.args.content.short in
+    runs_fit _ (map row_size rows) c.map.result (YieldsList-from_map _ row_size (YieldsList-from_slice rows cc) c.map.ensures.closure (λ x r q k. search (rules, tests))) (omega arith)
 
 pub returns : goal.returns
 returns c =
-    let rows = c.args.content.now in
-    let all : length (items_of rows) ≤ c.loop-row.row-index = simp length-map c.loop-row-test.false in
-    let is = c.loop-row.invariant ∙ ap sizes (take_all c.loop-row.row-index (items_of rows) all) in
-    let small = front_small rows c.loop-row.row-index c.requires.within c.requires.short c.loop-row.auto.row-index-end in
-    record { size = is; bound = omega (arith, ints) }
+    let rows = c.args.content.rows.now in
+    let all = total_from_yields_List ◌+ℤ◌ (pos 0) c.sum.result c.sum.ensures.ran (YieldsList-from_map _ row_size (YieldsList-from_slice rows cc) c.map.ensures.closure (λ x r q k. search (rules, tests))) in
+    let is = all ∙ rows_add rows (pos 0) in
+    let low = sizes_low rows c.args.content.within c.args.content.short in
+    record { size = omega (arith, ints); bound = omega (arith, ints) }

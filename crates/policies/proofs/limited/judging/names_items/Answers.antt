@@ -1,16 +1,11 @@
--- A class that has items decides; one that has none adds nothing.
-use Rattle.std.proofs.lemmas.Bool.Decides.{nat_tests}
-use Rattle.std.proofs.Common.{arith}
-use Rattle.policies.proofs.Shelves.{named_more, named_none}
+-- The classes and the counts go by side by side.
+use Rattle.std.proofs.Common.{◌&&◌, nat_lt, ◌∙◌, rules, tests}
+use Rattle.std.proofs.lemmas.Iterator.{YieldsList-from_slice, YieldsList-from_zip}
+use Rattle.std.proofs.lemmas.Iterator.Search.{any_from_yields_List}
+use Rattle.policies.proofs.Shelves.{any_named}
 use Rattle.policies.proofs.limited.judging.names_items.Goals as goal
 
-pub returns-then-shelved-i-gt0 : goal.returns-then-shelved-i-gt0
-returns-then-shelved-i-gt0 c =
-    let e = named_more c.args.classes.now c.args.shelved.now c.loop-i.i (omega arith) (omega arith) in grind (arith, nat_tests)
-
-pub loop-i-preserved : goal.loop-i-preserved
-loop-i-preserved c =
-    let e = named_more c.args.classes.now c.args.shelved.now c.loop-i.i (omega arith) (omega arith) in grind (arith, nat_tests)
-
 pub returns : goal.returns
-returns c = let e = named_none c.args.classes.now c.args.shelved.now c.loop-i.i (omega arith) in grind (arith, nat_tests)
+returns c =
+    any_from_yields_List (λ p. p.0 && nat_lt 0 p.1) c.any.new.self _ c.any.result c.any.ensures.ran (YieldsList-from_zip (YieldsList-from_slice c.args.classes.now cc) (YieldsList-from_slice c.args.shelved.now cc)) (λ x b q k. search (rules, tests)) ∙
+    any_named c.args.classes.now c.args.shelved.now

@@ -17,7 +17,7 @@ use Rattle.calls.specs.Feeding.{refusal, fed_book, counted, content_for}
 use Rattle.calls.specs.Firing.{note_class}
 use Rattle.calls.specs.Runs.{State, is_open}
 use Rattle.calls.specs.Findings.{times, book_of, owed_for, waiting_in, texts, is_dropped, kept_in, body, text_of, lies}
-use Rattle.calls.proofs.ListLaws.{all_left, all_right, all_both, kept_by_same, joined_same}
+use Rattle.calls.proofs.ListLaws.{all_left, all_right, all_both, kept_by_same, joined_same, cond_none, regroup}
 use Rattle.calls.proofs.Times.{times_append, times_here, times_kept, all_times, all_from_times}
 use Rattle.page.proofs.Contents.{length_span}
 use Rattle.calls.proofs.Spans.{span_in}
@@ -121,9 +121,6 @@ module _ (b : Book) (F : List Item) (held : List ℕ) (i : Inv F (is_open b) hel
       regroup (body R b.shipped) held (filter (is_word R) waited) (cond (is_note t) [] (number ∷ []))
       ∙ ap₂ (λ l k. l ++ k) i.bodies (sym (new_bodies R t ts ok)) ∙
       sym (kept_more R t ts ok (is_body R) (is_body Q) (λ y h. ap (λ r. eqb (owner r) 0) (old y h)))
-    where
-      regroup : (l h k z : List ℕ) → l ++ (h ++ (k ++ z)) ≡ (l ++ (h ++ k)) ++ z
-      regroup l h k z = simp append_assoc
 
   content_here : is_note t ≡ true → content t number 0 ≡ span (number + 1) (length ts)
   content_here e =
@@ -132,14 +129,10 @@ module _ (b : Book) (F : List Item) (held : List ℕ) (i : Inv F (is_open b) hel
   part_new : (c : ℕ) → part Q c number ≡ cond (is_note t) (cond (eqb (note_class t) c) (span (number + 1) (length ts)) []) []
   part_new c = ap (λ r. cond (eqb (note_class r.item) c) (content r.item number r.spent) []) here ∙ go (is_note t) refl
     where
-      none : (v : Bool) → ◌≡◌ {A = List ℕ} (cond v [] []) []
-      none true = refl
-      none false = refl
-
       go : (v : Bool) → is_note t ≡ v →
           cond (eqb (note_class t) c) (content t number 0) [] ≡ cond v (cond (eqb (note_class t) c) (span (number + 1) (length ts)) []) []
       go true e = ap (λ l. cond (eqb (note_class t) c) l []) (content_here e)
-      go false e = ap (λ l. cond (eqb (note_class t) c) l []) (word_owes t number 0 e) ∙ none (eqb (note_class t) c)
+      go false e = ap (λ l. cond (eqb (note_class t) c) l []) (word_owes t number 0 e) ∙ cond_none (eqb (note_class t) c)
 
   owed_new : owed_for Q number ≡ cond (is_note t) (span (number + 1) (length ts)) (number ∷ [])
   owed_new = ap (λ r. cond (is_note r.item) (content r.item number r.spent) (number ∷ [])) here ∙ go (is_note t) refl
@@ -163,9 +156,6 @@ module _ (b : Book) (F : List Item) (held : List ℕ) (i : Inv F (is_open b) hel
       (cond (is_note t) (cond (eqb (note_class t) c) (span (number + 1) (length ts)) []) [])
       ∙ ap₂ (λ l k. l ++ k) (i.classes c) (sym (new_texts R t ts ok c)) ∙
       sym (kept_more R t ts ok (is_text R c) (is_text Q c) (λ y h. old_text R t ts ok i.formed c y h))
-    where
-      regroup : (l h k z : List ℕ) → l ++ (h ++ (k ++ z)) ≡ (l ++ (h ++ k)) ++ z
-      regroup l h k z = simp append_assoc
 
   owes_more : (y : ℕ) → times y (owes Q waits) ≡ times y (owes R waited) + times y (cond (is_note t) (span (number + 1) (length ts)) (number ∷ []))
   owes_more y =

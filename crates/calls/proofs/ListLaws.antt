@@ -62,3 +62,11 @@ joined_same f g (x ∷ xs) h = ap₂ (λ a l. a ++ l) h.0 (joined_same f g xs h.
 pub joined_none : {A : Type 0} (f : ℕ → List A) (xs : List ℕ) → AllByRecursion (λ x. f x ≡ []) xs → flat_map f xs ≡ []
 joined_none f [] h = refl
 joined_none f (x ∷ xs) h = rw h.0 (joined_none f xs h.1)
+
+pub cond_none : (b : Bool) → ◌≡◌ {A = List ℕ} (cond b [] []) []
+cond_none true = refl
+cond_none false = refl
+
+-- a list behind three others, joined on either side
+pub regroup : (l h k z : List ℕ) → l ++ (h ++ (k ++ z)) ≡ (l ++ (h ++ k)) ++ z
+regroup l h k z = simp append_assoc

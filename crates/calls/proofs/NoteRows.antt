@@ -17,7 +17,7 @@ use Rattle.items.specs.Table.{row_at, item_at, content, remaining, change_all, p
 use Rattle.page.specs.Breaks.{empty}
 use Rattle.calls.specs.Firing.{note_class, shelve}
 use Rattle.calls.specs.Findings.{times, owed_for, texts, is_dropped, kept_in, body, text_of}
-use Rattle.calls.proofs.ListLaws.{joined_append, all_both, joined_none, joined_same}
+use Rattle.calls.proofs.ListLaws.{joined_append, all_both, joined_none, joined_same, cond_none}
 use Rattle.calls.proofs.Times.{times_append, all_apart, joined_set}
 use Rattle.page.proofs.Contents.{length_span}
 use Rattle.calls.proofs.Spans.{drop_span, take_span, span_from, span_to_some}
@@ -43,11 +43,7 @@ word_owes (Note c k) x s e = absurd (true≢false e)
 
 pub part_none : (R : List Row) (c x : ℕ) → is_note (item_at R x) ≡ false → part R c x ≡ []
 part_none R c x e =
-    ap (λ l. cond (eqb (note_class (item_at R x)) c) l []) (word_owes (item_at R x) x (spent_at R x) e) ∙ none (eqb (note_class (item_at R x)) c)
-  where
-    none : (b : Bool) → ◌≡◌ {A = List ℕ} (cond b [] []) []
-    none true = refl
-    none false = refl
+    ap (λ l. cond (eqb (note_class (item_at R x)) c) l []) (word_owes (item_at R x) x (spent_at R x) e) ∙ cond_none (eqb (note_class (item_at R x)) c)
 
 -- what a piece more on a shelf changes
 module _ (sh : List (List Piece)) (c x first : ℕ) (h : c < length sh) where
@@ -203,12 +199,8 @@ module _ (R : List Row) (w : WellFormed R) (x n d c k : ℕ) (x_inside : Inside 
   still_parts : (e : ℕ) → parts (rows_spent R x n d) e (still R x n d) ≡ cond (eqb c e) (rest_part R x n d) []
   still_parts e = go (rest_part R x n d) remaining_here
     where
-      none : (b : Bool) → ◌≡◌ {A = List ℕ} [] (cond b [] [])
-      none true = refl
-      none false = refl
-
       go : (z : List ℕ) → remaining (rows_spent R x n d) x ≡ z → parts (rows_spent R x n d) e (cond (empty z) [] (x ∷ [])) ≡ cond (eqb c e) z []
-      go [] f = none (eqb c e)
+      go [] f = sym (cond_none (eqb c e))
       go (a ∷ z) f =
           append-nil (part (rows_spent R x n d) e x) ∙ ap₂ (λ (it : ℕ → Item) l. cond (eqb (note_class (it x)) e) l []) goes_alike.item f ∙
           ap (λ t. cond (eqb (note_class t) e) (a ∷ z) []) is

@@ -15,7 +15,7 @@ use Rattle.calls.specs.Firing.{note_class}
 use Rattle.calls.specs.Stepping.{Step, stays, fires, onto, last_output, without}
 use Rattle.calls.specs.Runs.{is_open, is_fired}
 use Rattle.calls.specs.Findings.{times, shelved, texts, is_dropped, kept_in, body, text_of, lies}
-use Rattle.calls.proofs.ListLaws.{all_right}
+use Rattle.calls.proofs.ListLaws.{all_right, regroup}
 use Rattle.calls.proofs.Times.{times_append, all_times, all_fewer, length_same}
 use Rattle.calls.proofs.Table.{spent_at, place_at, is_body, is_text, Inside, part_kept, Alike, alike_put, alike_texts, alike_body, alike_text_of, texts_inside, put_cases, kept_drop, kept_drop_other}
 use Rattle.calls.proofs.Invariant.{formed_alike, is_word, parts, parts_append, owes, owes_append, shelf, to_come, Inv, same_parts, same_owes, same_words, same_inside, HasLeft, same_left, lies_still}
@@ -88,11 +88,8 @@ module _ (b : Book) (F : List Item) (held : List ℕ) (i : Inv F (is_open b) hel
 
       bodies_were : (body R b.shipped ++ (held ++ filter (is_word R) b.page)) ++ x ∷ filter (is_word R) rest ≡ body R (kept_in R)
       bodies_were =
-          regroup (body R b.shipped) held (filter (is_word R) b.page) (x ∷ filter (is_word R) rest) ∙
+          sym (regroup (body R b.shipped) held (filter (is_word R) b.page) (x ∷ filter (is_word R) rest)) ∙
           ap (λ l. body R b.shipped ++ (held ++ l)) (sym words) ∙ i.bodies
-        where
-          regroup : (l h p z : List ℕ) → (l ++ (h ++ p)) ++ z ≡ l ++ (h ++ (p ++ z))
-          regroup l h p z = simp append_assoc
 
       is_body_lem : is_body R x ≡ true
       is_body_lem = (all_right (λ y. is_body R y ≡ true) (body R b.shipped ++ (held ++ filter (is_word R) b.page)) (x ∷ filter (is_word R) rest)
@@ -181,9 +178,6 @@ module _ (b : Book) (F : List Item) (held : List ℕ) (i : Inv F (is_open b) hel
         pages = i.pages;
       }
         where
-          regroup : (l h p z : List ℕ) → l ++ (h ++ (p ++ z)) ≡ (l ++ (h ++ p)) ++ z
-          regroup l h p z = simp append_assoc
-
           go : (y : ℕ) → 0 < times y (texts (change_all (put Dropped) R (x ∷ []))) → (pl : Place) → times y (x ∷ []) ≡ 0 →
               0 < times y (lies (is_open b) held pl) → place_at (change_all (put Dropped) R (x ∷ [])) y ≡ pl →
               0 < times y (lies (is_open (without b x rest)) held pl)

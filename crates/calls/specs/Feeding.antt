@@ -55,39 +55,13 @@ fed_rows n x content = fed_row (counted x content) None ∷ map (λ y. fed_row y
 
 -- a feed that is not refused
 abbrev pub fed_book : Book → Item → List Item → Book
-fed_book b x content = let n = length b.rows + 1 in record {
-  settings = b.settings;
-  classes = b.classes;
-  rows = b.rows ++ fed_rows n x content;
-  contributions = b.contributions ++ n ∷ [];
-  page = b.page;
-  best = b.best;
-  shelves = b.shelves;
-  shipped = b.shipped;
-  pages = b.pages;
-  firings = b.firings;
-  closed = b.closed;
-  done = b.done;
-}
+fed_book b x content = let n = length b.rows + 1 in record b { rows = b.rows ++ fed_rows n x content; contributions = b.contributions ++ n ∷ [] }
 
 abbrev pub closing_refusal : Bool → Option Refusal
 closing_refusal closed = refused_if closed Closed
 
 abbrev pub closed_book : Book → Book
-closed_book b = record {
-  settings = b.settings;
-  classes = b.classes;
-  rows = b.rows;
-  contributions = b.contributions;
-  page = b.page;
-  best = b.best;
-  shelves = b.shelves;
-  shipped = b.shipped;
-  pages = b.pages;
-  firings = b.firings;
-  closed = true;
-  done = b.done;
-}
+closed_book b = record b { closed = true }
 
 -- where an item lies: none where no item has that number; a note has no place of its own
 abbrev pub place_in : List Row → ℕ → Option Place

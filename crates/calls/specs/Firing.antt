@@ -108,19 +108,13 @@ abbrev pub fired_book : Book → PageBreak → Book
 fired_book b at =
     let s = sorted b at (notes_before b at) in
     let n = min most (b.firings + 1) in
-    record {
-      settings = b.settings;
-      classes = b.classes;
+    record b {
       rows = change_all (stamped n at.goal) s.rows (body_before b at);
       contributions = drop at.place b.page ++ b.contributions;
       page = [];
       best = None;
       shelves = s.shelves;
-      shipped = b.shipped;
-      pages = b.pages;
       firings = n;
-      closed = b.closed;
-      done = b.done;
     }
 
 -- and what it leaves for its settling

@@ -40,18 +40,12 @@ abbrev pub settled_book : Book → Output → List ℕ → List ℕ → List ℕ
 settled_book b out body held returned classes =
     let s = shipment b body classes in
     let shipped = change_all (put (Shipped (length b.pages + 1))) b.rows s in
-    record {
-      settings = b.settings;
-      classes = b.classes;
+    record b {
       rows = change_all (put Owed) (change_all (put Held) shipped held) returned;
       contributions = out.waiting ++ (returned ++ b.contributions);
-      page = b.page;
-      best = b.best;
       shelves = emptied classes b.shelves;
       shipped = b.shipped ++ s;
       pages = listed b out.penalty s;
-      firings = b.firings;
-      closed = b.closed;
       done = out.final;
     }
 

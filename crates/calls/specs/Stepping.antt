@@ -25,37 +25,11 @@ pub data Step : Type 0 where
 
 -- the first contribution is dropped, and the rest of them are left
 abbrev pub without : Book → ℕ → List ℕ → Book
-without b x rest = record {
-  settings = b.settings;
-  classes = b.classes;
-  rows = change_all (put Dropped) b.rows (x ∷ []);
-  contributions = rest;
-  page = b.page;
-  best = b.best;
-  shelves = b.shelves;
-  shipped = b.shipped;
-  pages = b.pages;
-  firings = b.firings;
-  closed = b.closed;
-  done = b.done;
-}
+without b x rest = record b { rows = change_all (put Dropped) b.rows (x ∷ []); contributions = rest }
 
 -- or it goes onto the page, after a look at the place before it
 abbrev pub onto : Book → ℕ → List ℕ → Book
-onto b x rest = record {
-  settings = b.settings;
-  classes = b.classes;
-  rows = b.rows;
-  contributions = rest;
-  page = b.page ++ x ∷ [];
-  best = best_here b;
-  shelves = b.shelves;
-  shipped = b.shipped;
-  pages = b.pages;
-  firings = b.firings;
-  closed = b.closed;
-  done = b.done;
-}
+onto b x rest = record b { contributions = rest; page = b.page ++ x ∷ []; best = best_here b }
 
 abbrev pub fire_at : Book → Option PageBreak → Step
 fire_at b None = stays waiting b

@@ -20,8 +20,12 @@ module _ (rows : List Row) (first : ℕ) where
   pub rest_within : Within (items_of rows) → Within (items_of (take (length rows - first) (drop first rows)))
   rest_within h = subst Within (sym rest_is) (All-drop (λ x. within_limits x ≡ true) first (items_of rows) h)
 
+  -- lengths within the rest, as lengths within the rows
+  pub rest_length : length (take (length rows - first) (drop first rows)) ≡ length rows - first
+  rest_length = ap length (take_rest rows first) ∙ length-drop first rows
+
   pub rest_short : length rows ≤ 16384 → length (take (length rows - first) (drop first rows)) ≤ 16384
-  rest_short h = let e : length (take (length rows - first) (drop first rows)) ≡ length rows - first = ap length (take_rest rows first) ∙ length-drop first rows in omega arith
+  rest_short h = omega (arith, rest_length)
 
   pub part_splits : (rest after : List Row) (w : ℤ) (d : ℕ) (b : NoteBreak) (n : ℕ) → rest ≡ drop first rows → after ≡ drop (first + b.place) rows → Some b ≡ break_of (items_of rest) w d → n ≡ prefix_len is_discardable (items_of after) →
       Some (record { first = first; cut = b; dropped = n }) ≡ part_from (items_of rows) w d first

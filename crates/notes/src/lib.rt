@@ -12,7 +12,7 @@ pub mod column;
 pub mod content;
 pub mod split;
 
-use column::Column;
+pub use column::Column;
 use content::Content;
 use cost::break_cost;
 use cost::least::{Costed, least, weigh};

@@ -24,7 +24,7 @@ use Rattle.page.specs.declared.PageSoFar.{PageSoFar}
 use Rattle.page.specs.declared.Taken.{Taken}
 use Rattle.page.specs.PageSoFar.{sizes, fresh, led, with_lead, with_box, with_text, class_of, rules_of, shelf_size, height_of, begins, begin, items_left, all_of, takes, broken, floats, is_split, stays_whole, break_for, with_note, with_item, next, so_far}
 use Rattle.page.specs.Low.{Low, Ready}
-use Rattle.page.specs.Standing.{Grounded, Inside, Standing, Arriving}
+use Rattle.page.specs.Standing.{Grounded, Inside, Standing}
 use Rattle.page.proofs.Sizes.{sizes_small}
 use Rattle.page.proofs.Heights.{break_modest}
 use Rattle.page.proofs.Contents.{left_within, left_short}
@@ -243,9 +243,8 @@ module _ (g : Ground) (rows : List Row) (page : List ℕ) (m : PageSoFar) (h : S
   standing_total = omega (arith, standing_small.sums.total, h.few)
 
   -- and one more item wraps none of them
-  pub standing_ready : (x : ℕ) → Arriving rows x → Ready g rows m x
-  standing_ready x a =
-      let f = a.inside.first in
+  pub standing_ready : (x : ℕ) → 1 ≤ x → Ready g rows m x
+  standing_ready x f =
       let n = length page in
       let s = standing_small in
       let few = h.few in

@@ -15,7 +15,7 @@ use Rattle.boxlist.specs.Marks.{letters_of}
 use Rattle.boxlist.specs.Parts.{Behind, Exactly, fields, MadeOf, NoDigit, small}
 use Rattle.boxlist.specs.Texts.{field, mark_of, values_of, text_of, Fits, Small}
 use Rattle.boxlist.proofs.Fields.{ends_before}
-use Rattle.boxlist.proofs.Sequences.{then, made, nothing}
+use Rattle.boxlist.proofs.Sequences.{first_fails, then, made, nothing}
 
 abbrev pub rebuilt : Mark → List ℤ → List ℕ → Record
 rebuilt St zs ns = Settings (get_or ns 0 0) (get_or ns 1 0) (get_or ns 2 0) (get_or ns 3 0) (get_or ns 4 0)
@@ -177,6 +177,9 @@ module _ (m : Mark) (t : Cursor) where
     sign : (o : Option ℤ) → Exactly field Small t v o → Signs v (option_map (λ z. z ∷ []) o)
     sign o y = subst (λ n. Exactly (flat_map field) (λ zs. (length zs ≡ n) × AllByRecursion Small zs) t v (option_map (λ z. z ∷ []) o)) one_sign (lead t v o y)
 
+    pub no_lead : Exactly field Small t v None → Behind m t v None
+    no_lead y = made_behind v None (first_fails (flat_map field) fields _ (λ _ ns. (length ns ≡ numbers m) × AllByRecursion small ns) (λ ns. ends_before (map pos ns)) t v (sign None y))
+
     pub led : (u : Cursor) (z : ℤ) → Exactly field Small t v (Some z) → (o : Option (List ℕ)) → Counts v u o → Behind m t u (option_map (rebuilt m (z ∷ [])) o)
     led u z y o h = values_are v u (z ∷ []) (sign (Some z) y) o h
 
@@ -199,6 +202,9 @@ whole s u o x =
 
 apart : (r : Record) (ys : List ℕ) → NoDigit ys → NoDigit (behind r ++ ys)
 apart r = ends_before (values_of r)
+
+pub no_mark : (s t : Cursor) → Letters s t None → Exactly text_of Fits s t None
+no_mark s t x = whole s t None (first_fails letters_of behind (λ _. Unit {0}) Of apart s t x)
 
 -- m is the mark that was read, and k the same by another name
 after_mark : (s t u : Cursor) (k m : Mark) → k ≡ m → Letters s t (Some k) → (o : Option Record) → Behind m t u o → Exactly text_of Fits s u o

@@ -2,7 +2,7 @@
 use Rattle.std.proofs.Common.{◌≡◌, ℕ, zero, suc, ◌+◌, ◌<◌, List, [], ◌∷◌, ◌++◌, map, length, get_or, take, drop, set, ℤ, pos, negsuc, ◌-ℤ◌, IfSome, Some, None, decimal, Option, sym, refl, ap, ◌∙◌, subst, arith, MatchOption}
 use Rattle.std.proofs.lemmas.Fmt.{decimal_nonempty, digits_decimal}
 use Rattle.std.proofs.ByRecursion.{All-get_or, All-push}
-use Rattle.std.proofs.lemmas.List.{append_assoc, append_cancel_left, append-nil, drop_more, get_or_append_left, length-set, map_push, take_more, take_more_set}
+use Rattle.std.proofs.lemmas.List.{append_assoc, append_cancel_left, append-nil, drop_more, get_or_append_left, length-set, map_push, take_all, take_more, take_more_set}
 use Rattle.std.proofs.lemmas.Grind.{flat_map-append}
 use Rattle.std.proofs.lemmas.Str.Parse.{digit_at}
 use Rattle.std.proofs.lemmas.Int.{ints}
@@ -11,7 +11,7 @@ use Rattle.boxlist.specs.declared.cursor.Cursor.{Cursor}
 use Rattle.boxlist.specs.Parts.{ahead, Exactly, fields, NoDigit, Passed, small}
 use Rattle.boxlist.specs.Texts.{field, Small}
 use Rattle.boxlist.proofs.Numbers.{own}
-use Rattle.boxlist.proofs.Passes.{passed_both, same_rest}
+use Rattle.boxlist.proofs.Passes.{passed_none, passed_both, same_rest}
 
 pub none_some : {A : Type 0} {x : A} → None ≡ Some x → ⊥
 none_some e = cc
@@ -65,6 +65,9 @@ ends_before (z ∷ zs) ys h = λ d. omega arith
 fields_push : (ns : List ℕ) (n : ℕ) → fields (ns ++ n ∷ []) ≡ fields ns ++ field (pos n)
 fields_push ns n = ap (flat_map field) (map_push pos ns n) ∙ flat_map-append field (map pos ns) (pos n ∷ []) ∙ ap (λ l. fields ns ++ l) (append-nil (field (pos n)))
 
+pub none : (n : ℕ) (s : Cursor) (ns : List ℕ) → length ns ≡ n → Read n s s 0 ns
+none n s ns long = record { long = long; smalls = tt; passed = passed_none s; kept = λ vs ys l a ends e. (refl, e) }
+
 module _ {n i : ℕ} {s t : Cursor} {ns : List ℕ} (u : Cursor) (h : Read n s t i ns) (l : i < n) where
   -- what the next field is, where numbers stand there
   next_is : (o : Option ℕ) → Exactly (λ v. field (pos v)) small t u o → (vs ys : List ℕ) → length vs ≡ n → AllByRecursion small vs → NoDigit ys → ahead s ≡ fields vs ++ ys → (ahead t ≡ field (pos (get_or vs i 0)) ++ (fields (drop (i + 1) vs) ++ ys)) × (o ≡ Some (get_or vs i 0))
@@ -87,3 +90,11 @@ module _ {n i : ℕ} {s t : Cursor} {ns : List ℕ} (u : Cursor) (h : Read n s t
             let same : v ≡ get_or vs i 0 = some_same q.1 in
             (take_more vs i 0 (omega arith) ∙ ap (λ r. r ++ get_or vs i 0 ∷ []) (h.kept vs ys long a ends e).0 ∙ ap (λ y. take i ns ++ y ∷ []) (sym same) ∙ sym front, append_cancel_left (field (pos v)) _ _ (sym x.reads.1.front ∙ q.0 ∙ ap (λ y. field (pos y) ++ (fields (drop (i + 1) vs) ++ ys)) (sym same)));
       }
+
+pub whole : {n : ℕ} {s t : Cursor} {ns : List ℕ} → Read n s t n ns → Exactly fields (λ vs. (length vs ≡ n) × AllByRecursion small vs) s t (Some ns)
+whole {n} {s} {t} {ns} h =
+    let all = take_all n ns (omega (arith, h.long)) in
+    record {
+      reads = ((h.long, subst (AllByRecursion small) all h.smalls), subst (λ r. Passed (fields r) s t) all h.passed);
+      finds = λ vs ys fits ends e. ap Some (sym all ∙ sym (h.kept vs ys fits.0 fits.1 ends e).0 ∙ take_all n vs (omega (arith, fits.0)));
+    }

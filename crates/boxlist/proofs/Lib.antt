@@ -1,5 +1,6 @@
 pub mod Bodies
 pub mod Fields
+pub mod Letters
 pub mod Lines
 pub mod Numbers
 pub mod Passes

@@ -62,6 +62,10 @@ rest (b ∷ bs) =
     (λ e. (more.0, ap (λ l. b ∷ l) more.1 ∙ ap (λ l. b ∷ (l ++ more.0)) (sym (cond-false (eqb b 10) [] (line_of bs) e))))
     (cases_Bool (eqb b 10))
 
+pub some_line : (xs : List ℕ) → 0 < length xs → 0 < length (line_of xs)
+some_line [] h = h
+some_line (b ∷ bs) h = omega arith
+
 -- s is where a line begins, and t where reading a record ended
 module _ (s t : Cursor) where
   abbrev Read : Option Record → Type 0

@@ -12,7 +12,7 @@ use Rattle.std.specs.Int.Digits.{number_from_digits}
 use Rattle.items.specs.Items.{most}
 use Rattle.boxlist.specs.declared.cursor.Cursor.{Cursor}
 use Rattle.boxlist.specs.Parts.{ahead, Exactly, LeadingZero, NoDigit, Passed, small}
-use Rattle.boxlist.proofs.Passes.{passed_both, shorter}
+use Rattle.boxlist.proofs.Passes.{passed_none, passed_both, shorter}
 
 pub own : IsNumeralModel (AllDigits 10) (digits_value 10)
 own = numerals_by_value (AllDigits 10) tells_digits
@@ -80,6 +80,9 @@ pub record Sofar (s t : Cursor) (n : ℕ) : Type 0 where
   pub passed : Passed ds s t
   pub digits : AllDigits 10 ds
   pub is : digits_value 10 ds ≡ n
+
+pub start : (s : Cursor) → Sofar s s 0
+start s = record { ds = []; passed = passed_none s; digits = tt; is = refl }
 
 glyph : (d : ℕ) → d < 10 → digit_value (48 + d) ≡ d
 glyph d h = grind (arith, nat_tests)

@@ -5,7 +5,7 @@ use Rattle.std.specs.Option.{option_map}
 use Rattle.std.specs.List.{AllByRecursion}
 use Rattle.boxlist.specs.declared.cursor.Cursor.{Cursor}
 use Rattle.boxlist.specs.Parts.{ahead, Exactly, NoDigit, Passed}
-use Rattle.boxlist.proofs.Fields.{some_same}
+use Rattle.boxlist.proofs.Fields.{none_some, some_same}
 use Rattle.boxlist.proofs.Passes.{passed_none, passed_both}
 
 -- the second part begins with no digit, and which it is may hang on the first
@@ -15,6 +15,12 @@ module _ {A B : Type 0} (write : A → List ℕ) (write' : B → List ℕ) (Fit 
 
   abbrev Fits : A × B → Type 0
   Fits p = Fit p.0 × Fit' p.0 p.1
+
+  pub first_fails : (s t : Cursor) → Exactly write Fit s t None → Exactly both Fits s t None
+  first_fails s t x = record {
+    reads = tt;
+    finds = λ p ys fits ends e. absurd (none_some (x.finds p.0 (write' p.1 ++ ys) fits.0 (apart p.1 ys ends) (e ∙ append_assoc (write p.0) (write' p.1) ys)));
+  }
 
   module _ (s t u : Cursor) (a : A) (x : Exactly write Fit s t (Some a)) where
     both_read : (o : Option B) → IfSome o (λ b. Fit' a b × Passed (write' b) t u) → IfSome (option_map (λ b. (a, b)) o) (λ p. Fits p × Passed (both p) s u)

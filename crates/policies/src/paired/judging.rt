@@ -1,21 +1,35 @@
 // How pairing judges.
-ghost use Rattle.std.specs.Prelude.{◌≡◌, ◌+◌, ◌<◌, ◌≤◌, [], ◌++◌, length, take, slice_index};
+ghost use Rattle.std.specs.Prelude.{◌≡◌, ◌≤◌, [], ◌++◌, length, take};
 ghost use Rattle.policies.specs.Policies.{column_of, held_by_paired, PairedRule};
 
 use super::Paired;
 use crate::{FiredPage, Policy, Verdict};
 use arrayvec::ArrayVec;
 
-// The k-th of what is held below and the body.
-fn item_at<P: Policy>(below: &P, body: &[u32], k: usize) -> u32
-    requires few { length (P.Policy.held below.now) + length body.now ≤ 16384 }
-    requires within { k < length (P.Policy.held below.now) + length body.now }
-    ensures { result ≡ slice_index (P.Policy.held below.now ++ body.now) k }
+// Puts the first 512 items held below into the column if it is empty, since judging below may let go of them.
+// By place, since what is held below is asked by place.
+#[tactic(auto, using(crate::proofs::Pairing::begun))]
+fn begin<P: Policy>(column: &mut ArrayVec<u32, 512>, below: &P)
+    requires { length (P.Policy.held below.now) ≤ 16384 }
+    ensures { length column.old.items ≡ 0 → column.new.items ≡ take 512 (P.Policy.held below.now) }
 {
-    match below.held_at(k) {
-        Some(item) => item,
-        None => body[k - below.held_count()],
+    if !column.is_empty() {
+        return;
     }
+    for k in 0..below.held_count().min(512) {
+        column.push(below.held_at(k).unwrap());
+    }
+}
+
+// Leaves in the column the first `count` of what it has and the body.
+#[tactic(auto, using(crate::proofs::Pairing::taken))]
+fn fill(column: &mut ArrayVec<u32, 512>, body: &[u32], count: usize)
+    requires { count ≤ 512 }
+    ensures { column.new.items ≡ take count (column.old.items ++ body.now) }
+{
+    column.truncate(count);
+    let missing = (count - column.len()).min(body.len());
+    let _fits = column.try_extend_from_slice(&body[..missing]);
 }
 
 impl<P: Policy> Paired<P> {
@@ -29,21 +43,6 @@ impl<P: Policy> Paired<P> {
             column: ArrayVec::new(),
         }
     }
-
-    // The first 512 of what is held below and the body, any of which could become the column.
-    // By place, since what is held below is asked by place: tried as a chain, and the proof didn't close.
-    #[tactic(auto, using(crate::proofs::Pairing::front_of))]
-    fn front(&self, body: &[u32]) -> ArrayVec<u32, 512>
-        requires { length (P.Policy.held self.now.below) + length body.now ≤ 16384 }
-        ensures { result.items ≡ take 512 (P.Policy.held self.now.below ++ body.now) }
-    {
-        let mut front = ArrayVec::new();
-        let count = self.below.held_count() + body.len();
-        for k in 0..count.min(512) {
-            front.push(item_at(&self.below, body, k));
-        }
-        front
-    }
 }
 
 impl<P: Policy> Policy for Paired<P> {
@@ -53,12 +52,12 @@ impl<P: Policy> Policy for Paired<P> {
 
     #[tactic(auto, using(crate::proofs::Pairing::pairing))]
     fn judge(&mut self, page: FiredPage<'_>) -> Verdict {
-        let mut front = self.front(page.body);
+        let column = self.column.len();
+        begin(&mut self.column, &self.below);
         let verdict = self.below.judge(page);
         match verdict.shipped {
-            1..=512 if self.column.is_empty() => {
-                front.truncate(verdict.shipped);
-                self.column = front;
+            1..=512 if column == 0 => {
+                fill(&mut self.column, page.body, verdict.shipped);
                 Verdict {
                     shipped: 0,
                     held: verdict.shipped + verdict.held,
@@ -66,7 +65,6 @@ impl<P: Policy> Policy for Paired<P> {
                 }
             }
             shipped => {
-                let column = self.column.len();
                 self.column.clear();
                 Verdict {
                     shipped: column + shipped,

@@ -13,24 +13,25 @@ use Rattle.calls.proofs.Reaching.{reached_fed}
 use Rattle.book.specs.declared.Open.{Open}
 use Rattle.book.specs.View.{Contents, book_of, Fit, Kept}
 
+-- the turn with so many rows and such contributions
+abbrev pub entered : Open → ℕ → Queue → Open
+entered o rows q = record o { rows = rows; contributions = q }
+
 module _ (o : Open) (before : Contents) (rows' : List Row) (contributions' : List ℕ) (x : Item) (content : List Item) (q : Queue) (n : ℕ)
     (used : o.rows ≤ length before.rows) (count : n ≡ length (content_for x content))
     (written : take (o.rows + 1 + length (content_for x content)) rows' ≡ take o.rows before.rows ++ fed_rows (o.rows + 1) x content)
     (queued : list_of q contributions' ≡ list_of o.contributions before.contributions ++ (o.rows + 1) ∷ []) where
-  number_is : o.rows + 1 ≡ length (take o.rows before.rows) + 1
+  pub number_is : o.rows + 1 ≡ length (take o.rows before.rows) + 1
   number_is = ap (λ k. k + 1) (sym (length-take-le o.rows before.rows used))
 
   rows_are : take (o.rows + (1 + n)) rows' ≡ take o.rows before.rows ++ fed_rows (length (take o.rows before.rows) + 1) x content
   rows_are = ap (λ k. take k rows') (omega arith) ∙ written ∙ ap (λ k. take o.rows before.rows ++ fed_rows k x content) number_is
 
-  -- the turn, and the tables that it leaves
-  abbrev entered : Open
-  entered = record o { rows = o.rows + (1 + n); contributions = q }
-
+  -- the tables that the turn leaves
   abbrev after : Contents
   after = record before { rows = rows'; contributions = contributions' }
 
-  pub fed_is : book_of entered after ≡ fed_book (book_of o before) x content
+  pub fed_is : book_of (entered o (o.rows + (1 + n)) q) after ≡ fed_book (book_of o before) x content
   fed_is =
       ap₂ (λ rows contributions. record (book_of o before) { rows = rows; contributions = contributions }) rows_are
       (queued ∙ ap (λ k. list_of o.contributions before.contributions ++ k ∷ []) number_is)
@@ -54,7 +55,7 @@ module _ (o : Open) (before : Contents) (rows' : List Row) (contributions' : Lis
     one_more = sym (list_length q contributions' within) ∙ ap length queued ∙ length_push (list_of o.contributions before.contributions) (o.rows + 1) ∙
         ap (λ n. n + 1) (list_length o.contributions before.contributions k.waits)
 
-    pub kept_then : Kept entered after
+    pub kept_then : Kept (entered o (o.rows + (1 + n)) q) after
     kept_then = record {
       tables = fits;
       settings = k.settings;
@@ -66,6 +67,6 @@ module _ (o : Open) (before : Contents) (rows' : List Row) (contributions' : Lis
       shipped = omega (arith, k.shipped);
       pages = k.pages;
       shelved = k.shelved;
-      reached = subst (λ l. Reached l (book_of entered after)) (sym long)
+      reached = subst (λ l. Reached l (book_of (entered o (o.rows + (1 + n)) q) after)) (sym long)
           (subst (Reached (length before.rows)) (sym fed_is) (reached_fed (length before.rows) (book_of o before) x content none k.reached));
     }

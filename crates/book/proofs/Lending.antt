@@ -9,7 +9,7 @@ use Rattle.items.specs.Limits.{settings_within, declared_within}
 use Rattle.queue.specs.Queues.{none}
 use Rattle.calls.specs.Runs.{Reached}
 use Rattle.calls.proofs.Reaching.{reached_made}
-use Rattle.calls.specs.Making.{empty_book, tables_within, acceptable}
+use Rattle.calls.specs.Making.{empty_book, tables_within, acceptable, making_refusal}
 use Rattle.book.specs.declared.Open.{Open}
 use Rattle.book.specs.declared.Phase.TheVariants.{Feeding}
 use Rattle.book.specs.View.{Contents, lengths_of, shelves_of, ShelvesWithin, book_of, Fit, Kept}
@@ -40,10 +40,15 @@ fit t h eight =
       eight = eight;
     }
 
--- tables, settings and classes within their limits are accepted
-pub accepted : (n : ℕ) (others : List ℕ) (s : Settings) (cs : List (Option Class)) → tables_within n others ≡ true → settings_within s ≡ true → length cs ≡ 8 →
-    list_all declared_within cs ≡ true → acceptable n others s cs ≡ true
-accepted n others s cs ht hs hl hc = let e = eq-eqb (length cs) 8 hl in grind arith
+module _ (n : ℕ) (others : List ℕ) (s : Settings) (cs : List (Option Class)) (tables : tables_within n others ≡ true) (settings : settings_within s ≡ true) (eight : length cs ≡ 8)
+    (classes : list_all declared_within cs ≡ true) where
+  -- tables, settings and classes within their limits are accepted
+  pub acceptable_is : acceptable n others s cs ≡ true
+  acceptable_is = let e = eq-eqb (length cs) 8 eight in grind arith
+
+  -- and not refused
+  pub accepted : making_refusal n others s cs ≡ None
+  accepted = rw acceptable_is
 
 shelves_within : (n k : ℕ) (cells : List (List Piece)) → 1 ≤ n → length cells ≡ k → AllByRecursion (λ c. n ≤ length c) cells → ShelvesWithin (replicate k none) cells
 shelves_within n zero [] some e h = tt
@@ -51,7 +56,7 @@ shelves_within n zero (c ∷ cells) some e h = absurd (omega arith)
 shelves_within n (suc k) [] some e h = absurd (omega arith)
 shelves_within n (suc k) (c ∷ cells) some e h = (record { head = omega (arith, h.0); len = omega arith }, shelves_within n k cells some (omega arith) h.1)
 
-abbrev empty_open : Settings → List (Option Class) → Open
+abbrev pub empty_open : Settings → List (Option Class) → Open
 empty_open s cs = record {
   settings = s;
   classes = cs;
@@ -89,5 +94,5 @@ module _ (s : Settings) (cs : List (Option Class)) (t : Contents) where
         shipped = omega arith;
         pages = omega arith;
         shelved = shelves_within (length t.rows) 8 t.shelves f.some he f.shelves;
-        reached = subst (Reached (length t.rows)) (sym empty_is) (reached_made (length t.rows) (lengths_of t) s cs (accepted (length t.rows) (lengths_of t) s cs ht hs hl hc));
+        reached = subst (Reached (length t.rows)) (sym empty_is) (reached_made (length t.rows) (lengths_of t) s cs (acceptable_is (length t.rows) (lengths_of t) s cs ht hs hl hc));
       }

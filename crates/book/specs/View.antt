@@ -25,16 +25,12 @@ pub record Contents : Type 0 where
   pub pages : List Page
   pub shelves : List (List Piece)
 
+abbrev pub lent : List Row → List ℕ → List ℕ → List ℕ → List ℕ → List Page → List (List Piece) → Contents
+lent rows contributions page waiting shipped pages shelves =
+    record { rows = rows; contributions = contributions; page = page; waiting = waiting; shipped = shipped; pages = pages; shelves = shelves }
+
 abbrev pub contents_of : Tables → List (MutBor (List Piece)) → Contents
-contents_of t shelves = record {
-  rows = t.rows.now;
-  contributions = t.contributions.now;
-  page = t.page.now;
-  waiting = t.waiting.now;
-  shipped = t.shipped.now;
-  pages = t.pages.now;
-  shelves = map (λ s. s.now) shelves;
-}
+contents_of t shelves = lent t.rows.now t.contributions.now t.page.now t.waiting.now t.shipped.now t.pages.now (map (λ s. s.now) shelves)
 
 -- the same slices are lent, whatever stands in them
 pub record StillLent (old new : Tables) : Type 0 where
@@ -44,6 +40,15 @@ pub record StillLent (old new : Tables) : Type 0 where
   pub waiting : new.waiting.ghost_name ≡ old.waiting.ghost_name
   pub shipped : new.shipped.ghost_name ≡ old.shipped.ghost_name
   pub pages : new.pages.ghost_name ≡ old.pages.ghost_name
+
+-- each table is as long as it was
+pub record LengthsKept (old new : Tables) : Type 0 where
+  pub rows : length new.rows.now ≡ length old.rows.now
+  pub contributions : length new.contributions.now ≡ length old.contributions.now
+  pub page : length new.page.now ≡ length old.page.now
+  pub waiting : length new.waiting.now ≡ length old.waiting.now
+  pub shipped : length new.shipped.now ≡ length old.shipped.now
+  pub pages : length new.pages.now ≡ length old.pages.now
 
 -- of the tables only rows and contributions may have changed
 pub record OthersUntouched (old new : Tables) : Type 0 where

@@ -1,11 +1,13 @@
 // Feeding a book and closing it, and where an item lies.
-ghost use Rattle.std.specs.Prelude.{◌≡◌, ◌+◌, ◌<◌, ◌≤◌, false, not, ◌++◌, map, length, take, drop, is_ok, IfOk, MatchResult, if◌then◌else◌, Some, None, nat_lt, slice_index_or};
+ghost use Rattle.std.specs.Prelude.{◌≡◌, ℕ, ◌+◌, ◌<◌, ◌≤◌, false, not, List, ◌++◌, map, length, take, drop, is_ok, IfOk, MatchResult, if◌then◌else◌, Some, None, nat_lt, slice_index_or};
 ghost use Rattle.std.specs.Option.{is_some};
 ghost use Rattle.items.specs.declared.Piece.{Piece};
 ghost use Rattle.items.specs.Items.{is_note, fed_row};
 ghost use Rattle.items.specs.Refusals.{content_refusal};
-ghost use Rattle.calls.specs.Feeding.{content_for, counted, refused_if, note_refusal, item_refusal, refusal_of, refusal, fed_rows, place_in};
-ghost use Rattle.book.specs.View.{contents_of, StillLent, OthersUntouched, is_closed, book_of, Kept};
+ghost use Rattle.queue.specs.Queues.{Within};
+ghost use Rattle.calls.specs.declared.Page.{Page};
+ghost use Rattle.calls.specs.Feeding.{content_for, counted, refused_if, note_refusal, item_refusal, refusal_of, refusal, fed_rows, fed_book, place_in};
+ghost use Rattle.book.specs.View.{lent, contents_of, StillLent, LengthsKept, OthersUntouched, is_closed, book_of, Kept};
 ghost use Rattle.book.specs.Calls.{allowed, Fed, Closing};
 
 use crate::{Open, Phase, Tables};
@@ -139,6 +141,30 @@ impl Open {
         self.allow_within(tables.rows.len(), item, content)
     }
 
+    // An item, or a note with its content, that is not refused: its rows, and its number at the end of the contributions.
+    fn enter(
+        &mut self,
+        number: u32,
+        rows: &mut [Row],
+        contributions: &mut [u32],
+        item: Item,
+        content: &[Item],
+    )
+        requires number { number ≡ self.old.rows + 1 }
+        requires few { length rows.old ≤ 16384 }
+        requires room { self.old.rows + 1 + length (content_for item content.now) ≤ length rows.old }
+        requires waits { Within self.old.contributions contributions.old }
+        requires owed { self.old.contributions.len < length contributions.old }
+        ensures number { number ≡ length (take self.old.rows rows.old) + 1 }
+        ensures fed { (page waiting shipped : List ℕ) (pages : List Page) (shelves : List (List Piece)) → book_of self.new (lent rows.new contributions.new page waiting shipped pages shelves) ≡ fed_book (book_of self.old (lent rows.old contributions.old page waiting shipped pages shelves)) item content.now }
+        ensures rest { drop self.new.rows rows.new ≡ drop self.new.rows rows.old }
+        ensures kept { (page waiting shipped : List ℕ) (pages : List Page) (shelves : List (List Piece)) → refusal (length rows.old) (book_of self.old (lent rows.old contributions.old page waiting shipped pages shelves)) item content.now ≡ None → Kept self.old (lent rows.old contributions.old page waiting shipped pages shelves) → Kept self.new (lent rows.new contributions.new page waiting shipped pages shelves) }
+    {
+        write_fed(rows, self.rows, item, content);
+        self.contributions.push_back(contributions, number);
+        self.rows += 1 + content_of(item, content).len();
+    }
+
     // Feeds an item, or a note with its content, and answers its number. The two stay apart: of an item that is no note
     // content is not looked at.
     pub fn feed(
@@ -154,13 +180,12 @@ impl Open {
         ensures refused_untouched { is_ok result ≡ false → (self.new ≡ self.old) × (tables.new.rows.now ≡ tables.old.rows.now) × (tables.new.contributions.now ≡ tables.old.contributions.now) }
         ensures rows_behind_untouched { drop self.new.rows tables.new.rows.now ≡ drop self.new.rows tables.old.rows.now }
         ensures others_untouched { OthersUntouched tables.old tables.new }
+        ensures lengths_kept { LengthsKept tables.old tables.new }
         ensures still_lent { StillLent tables.old tables.new }
     {
         self.allow(tables, item, content)?;
         let number = self.rows as u32 + 1;
-        write_fed(tables.rows, self.rows, item, content);
-        self.contributions.push_back(tables.contributions, number);
-        self.rows += 1 + content_of(item, content).len();
+        self.enter(number, tables.rows, tables.contributions, item, content);
         Ok(number)
     }
 
@@ -188,7 +213,7 @@ impl Open {
         ensures { result ≡ place_in (take self.now.rows rows.now) number }
     {
         let before = (number as usize).checked_sub(1)?;
-        let row = rows.iter().take(self.rows).nth(before)?;
+        let row = rows[..self.rows.min(rows.len())].get(before)?;
         place_of(*row)
     }
 }

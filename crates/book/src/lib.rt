@@ -9,8 +9,8 @@ use items::{Class, Row, Settings};
 use page::breaks::PageBreak;
 use queue::Queue;
 
-// The tables that a book is over. The shelves are lent beside them: a call that lends an array of slices together
-// with another field is not covered by the borrow checker.
+// The tables that a book is over, as a feed is lent them; a making takes each by itself, as `&`. The shelves are lent
+// beside them: a call that lends an array of slices together with another field is not covered by the borrow checker.
 #[derive(Drop)]
 pub struct Tables<'a> {
     pub rows: &'a mut [Row],

@@ -1,14 +1,15 @@
 // Making a book over lent tables.
-ghost use Rattle.std.specs.Prelude.{◌≡◌, true, [], ◌∷◌, map, length, nat_le};
+ghost use Rattle.std.specs.Prelude.{◌≡◌, true, [], ◌∷◌, ◌++◌, map, length, nat_le};
 ghost use Rattle.std.specs.List.{list_all};
 ghost use Rattle.items.specs.Limits.{settings_within, declared_within};
 ghost use Rattle.calls.specs.Making.{empty_book, tables_within};
-ghost use Rattle.book.specs.View.{Contents, contents_of, lengths_of, book_of, Kept};
+ghost use Rattle.book.specs.View.{Contents, lent, lengths_of, book_of, Kept};
 ghost use Rattle.book.specs.Calls.{Made};
 
-use crate::{Open, Phase, Tables};
+use crate::{Open, Phase};
+use calls::Page;
 use items::refusals::{Cause, Refusal};
-use items::{Class, MOST_ROWS, Piece, Settings};
+use items::{Class, MOST_ROWS, Piece, Row, Settings};
 use queue::Queue;
 
 // Eight things in an array: so are slices lent as shelves, since no array of them can be written down.
@@ -35,27 +36,37 @@ fn classes_within_limits(classes: &[Option<Class>; 8]) -> bool
         .all(|class| class.is_none_or(|class| class.within_limits()))
 }
 
-impl Tables<'_> {
-    // Whether none beside the rows is shorter.
-    fn reach(&self, n: usize) -> bool
-        ensures { result ≡ list_all (nat_le n) (length self.now.contributions.now ∷ length self.now.page.now ∷ length self.now.waiting.now ∷ length self.now.shipped.now ∷ length self.now.pages.now ∷ []) }
-    {
-        n <= self.contributions.len()
-            && n <= self.page.len()
-            && n <= self.waiting.len()
-            && n <= self.shipped.len()
-            && n <= self.pages.len()
-    }
+// How long the tables beside the rows are.
+fn other_lengths(
+    contributions: &[u32],
+    page: &[u32],
+    waiting: &[u32],
+    shipped: &[u32],
+    pages: &[Page],
+) -> [usize; 5]
+    ensures { result ≡ length contributions.now ∷ length page.now ∷ length waiting.now ∷ length shipped.now ∷ length pages.now ∷ [] }
+{
+    [
+        contributions.len(),
+        page.len(),
+        waiting.len(),
+        shipped.len(),
+        pages.len(),
+    ]
+}
 
-    // 1 to 16,384 rows, and no other table or shelf shorter than they are.
-    fn fit(&self, shelves: &[&mut [Piece]; 8]) -> bool
-        ensures within { result ≡ tables_within (length self.now.rows.now) (lengths_of (contents_of self.now shelves.now)) }
-        ensures eight { length shelves.now ≡ 8 }
-    {
-        let n = self.rows.len();
-        let shelved = shelves_reach(n, shelves);
-        1 <= n && n <= MOST_ROWS && self.reach(n) && shelved
-    }
+fn others_reach(n: usize, others: [usize; 5]) -> bool
+    ensures { result ≡ list_all (nat_le n) others }
+{
+    others.iter().all(|other| n <= *other)
+}
+
+// Whether there are 1 to 16,384 rows, and no other table or shelf is shorter.
+fn tables_fit(rows: usize, others: [usize; 5], shelves: &[&mut [Piece]; 8]) -> bool
+    ensures within { result ≡ tables_within rows (others ++ map length (map (λ s. s.now) shelves.now)) }
+    ensures eight { result ≡ true → length shelves.now ≡ 8 }
+{
+    1 <= rows && rows <= MOST_ROWS && others_reach(rows, others) && shelves_reach(rows, shelves)
 }
 
 impl Open {
@@ -86,12 +97,18 @@ impl Open {
     pub fn make(
         settings: Settings,
         classes: [Option<Class>; 8],
-        tables: &Tables<'_>,
+        rows: &[Row],
+        contributions: &[u32],
+        page: &[u32],
+        waiting: &[u32],
+        shipped: &[u32],
+        pages: &[Page],
         shelves: &[&mut [Piece]; 8],
     ) -> Result<Open, Refusal>
-        ensures made { Made settings classes (contents_of tables.now shelves.now) result }
+        ensures made { Made settings classes (lent rows.now contributions.now page.now waiting.now shipped.now pages.now (map (λ s. s.now) shelves.now)) result }
     {
-        let fit = tables.fit(shelves);
+        let others = other_lengths(contributions, page, waiting, shipped, pages);
+        let fit = tables_fit(rows.len(), others, shelves);
         if !fit || !settings.within_limits() || !classes_within_limits(&classes) {
             return Err(Cause::Limits.into());
         }

@@ -1,5 +1,5 @@
 // A box list fed to a book.
-ghost use Rattle.std.specs.Prelude.{◌≤◌};
+ghost use Rattle.std.specs.Prelude.{◌≤◌, IfOk};
 ghost use Rattle.book.specs.View.{contents_of, Kept};
 
 use book::{Open, Tables};
@@ -59,12 +59,13 @@ impl Head {
         true
     }
 
-    // The settings and classes of a text. A fault is passed over: it is met again where the entries are fed.
+    // The settings and classes of a text. A fault is passed over: it is met again where the entries are fed. Classes
+    // rise, so the last one ends the head: what follows may be a long note, and is not read here.
     pub(crate) fn of(text: &[u8], content: &mut [Item]) -> Head {
         let mut list = BoxList::new(text);
         let mut head = Head::default();
         while let Ok(Some(read)) = list.entry(content) {
-            if !head.take(read) {
+            if !head.take(read) || head.classes[7].is_some() {
                 break;
             }
         }
@@ -122,7 +123,26 @@ fn feed_text(
     }
 }
 
-// Feeds a text to a book that is made over the tables. A making is refused at the settings' line.
+// A book over the tables; a making is refused at the settings' line. By `&`, since a call that lends several fields of
+// what lies behind a `&mut` is not covered by the borrow checker.
+fn make_book(head: Head, tables: &Tables<'_>, shelves: &[&mut [Piece]; 8]) -> Result<Open, Met>
+    ensures kept { IfOk result (λ book. Kept book (contents_of tables.now shelves.now)) }
+{
+    Open::make(
+        head.settings,
+        head.classes,
+        tables.rows,
+        tables.contributions,
+        tables.page,
+        tables.waiting,
+        tables.shipped,
+        tables.pages,
+        shelves,
+    )
+    .map_err(|refusal| Met { line: 1, refusal })
+}
+
+// Feeds a text to a book that is made over the tables.
 pub(crate) fn feed_all(
     text: &[u8],
     head: Head,
@@ -130,9 +150,6 @@ pub(crate) fn feed_all(
     tables: &mut Tables<'_>,
     shelves: &[&mut [Piece]; 8],
 ) -> Result<(), Fault> {
-    let mut book = Open::make(head.settings, head.classes, tables, shelves).map_err(|refusal| Met {
-        line: 1,
-        refusal,
-    })?;
+    let mut book = make_book(head, tables, shelves)?;
     feed_text(text, &mut book, content, tables, shelves)
 }
